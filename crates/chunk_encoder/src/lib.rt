@@ -1,0 +1,3 @@
+//! Chunks to bytes, and bytes to a sink.
+#![tactic(auto)]
+

@@ -1,0 +1,58 @@
+ghost use Rattle.std.specs.Prelude.{◌≡◌, ◌++◌, [], ◌∷◌, OnOk, OnErr, length, slice_get};
+
+use rec_base::Memory;
+use sample_values::{Sample, SampleView};
+use std::alloc::Global;
+use std::marker::Model;
+
+/// The samples of a chunk, in order.
+#[derive(Debug, Drop)]
+pub struct SampleList {
+    items: Vec<Sample>,
+}
+
+impl Model for SampleList {
+    ghost use Rattle.std.specs.Prelude.{List};
+    ghost use Rattle.xdf_model.specs.Sample.{Sample as SampleValue};
+
+    ghost Value = { List SampleValue };
+
+    ghost view = { λ l. l.items.items };
+}
+
+impl SampleList {
+    /// No samples.
+    pub fn new(alloc: Global) -> SampleList
+        ensures { result ≡ [] }
+    {
+        SampleList {
+            items: Vec::new(alloc),
+        }
+    }
+
+    /// Appends a sample. Want of memory changes nothing.
+    pub fn push(&mut self, item: Sample) -> Result<(), Memory>
+        ensures ok { OnOk result (self.new ≡ self.old ++ item ∷ []) }
+        ensures memory { OnErr result (self.new ≡ self.old) }
+    {
+        self.items.push(item)?;
+        Ok(())
+    }
+
+    /// How many samples there are.
+    pub fn len(&self) -> usize
+        ensures { result ≡ length self.now }
+    {
+        self.items.len()
+    }
+
+    /// The sample at a place, counted from 0, where there is one.
+    pub fn get(&self, i: usize) -> Option<SampleView<'_>>
+        ensures { result ≡ slice_get self.now i }
+    {
+        match self.items.get(i) {
+            Some(sample) => Some(sample.view()),
+            None => None,
+        }
+    }
+}

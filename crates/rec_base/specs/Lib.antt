@@ -1,0 +1,9 @@
+pub mod Causes
+pub mod Contents
+pub mod Docked
+pub mod Known
+pub mod Moved
+pub mod Pieces
+pub mod MemSource
+pub mod Files
+pub mod MemDock

@@ -1,0 +1,28 @@
+-- What a sample's fields mean.
+use Rattle.std.specs.Prelude.{◌≡◌, ℕ, List, Option, Some, None, map, length, take}
+use Rattle.xdf_model.specs.Sample.{Value, number, text, Sample}
+use Rattle.sample_values.specs.declared.sample.Held.{Held}
+use Rattle.sample_values.specs.declared.sample.Held.TheVariants.{Number, Text}
+use Rattle.sample_values.specs.declared.sample.Sample.TheInside.{Inside}
+
+abbrev pub value_of : Held → Value
+value_of (Number n) = number n
+value_of (Text t) = text t.items
+
+abbrev pub view_of : Inside → Sample
+view_of s = record { stamp = s.stamp; values = map value_of s.values.items }
+
+-- new begins with old
+abbrev pub KeepsFront : List ℕ → List ℕ → Type 0
+KeepsFront old new = take (length old) new ≡ old
+
+-- the number in a value that is there, or the bytes in it
+abbrev pub bits_in : Option Value → Option ℕ
+bits_in None = None
+bits_in (Some (number n)) = Some n
+bits_in (Some (text t)) = None
+
+abbrev pub text_in : Option Value → Option (List ℕ)
+text_in None = None
+text_in (Some (number n)) = None
+text_in (Some (text t)) = Some t

@@ -1,0 +1,113 @@
+ghost use Rattle.std.specs.Prelude.{◌≡◌, ◌≤◌, ◌++◌, OnOk, OnErr, map};
+ghost use Rattle.std.specs.List.{flat_map, AllByRecursion};
+ghost use Rattle.xdf_model.specs.Sample.{FitsValue, FitsShape, size_of, stamp_text, least_value_text, least_sample_text};
+ghost use Rattle.sample_values.specs.View.{value_of, KeepsFront};
+
+use crate::sample::{Held, Sample};
+use crate::view::SampleView;
+use byteorder::{ByteOrder, LittleEndian};
+use rec_base::Memory;
+use std::alloc::AllocError;
+use xdf_lengths::put_num;
+use xdf_model::{Format, Shape, Stamp};
+
+/// The bytes of a number of a format, 0 for texts.
+pub fn size_of_format(format: Format) -> u8
+    ensures { result ≡ size_of format }
+{
+    match format {
+        Format::Float32 => 4,
+        Format::Double64 => 8,
+        Format::Text => 0,
+        Format::Int32 => 4,
+        Format::Int16 => 2,
+        Format::Int8 => 1,
+        Format::Int64 => 8,
+    }
+}
+
+fn put_stamp(stamp: Stamp, out: &mut Vec<u8>) -> Result<(), AllocError>
+    ensures ok { OnOk result (out.new.items ≡ out.old.items ++ stamp_text stamp) }
+    ensures kept { OnErr result (KeepsFront out.old.items out.new.items) }
+{
+    match stamp {
+        Stamp::None => out.push(0)?,
+        Stamp::Bits(bits) => {
+            let mut text = [8u8; 9];
+            LittleEndian::write_uint(&mut text[1..], bits, 8);
+            out.extend_from_slice(&text)?;
+        }
+    }
+    Ok(())
+}
+
+fn put_value(size: u8, value: &Held, out: &mut Vec<u8>) -> Result<(), AllocError>
+    requires size { size ≤ 8 }
+    requires fits { FitsValue size (value_of value.now) }
+    ensures ok { OnOk result (out.new.items ≡ out.old.items ++ least_value_text size (value_of value.now)) }
+    ensures kept { OnErr result (KeepsFront out.old.items out.new.items) }
+{
+    match value {
+        Held::Number(n) => {
+            let mut text = [0u8; 8];
+            LittleEndian::write_uint(&mut text, *n, size as usize);
+            out.extend_from_slice(&text[..size as usize])?;
+        }
+        Held::Text(t) => {
+            put_num(t.len() as u64, out)?;
+            out.extend_from_slice(t)?;
+        }
+    }
+    Ok(())
+}
+
+fn put_values(size: u8, values: &[Held], out: &mut Vec<u8>) -> Result<(), AllocError>
+    requires size { size ≤ 8 }
+    requires fits { AllByRecursion (FitsValue size) (map value_of values.now) }
+    ensures ok { OnOk result (out.new.items ≡ out.old.items ++ flat_map (least_value_text size) (map value_of values.now)) }
+    ensures kept { OnErr result (KeepsFront out.old.items out.new.items) }
+{
+    for value in values {
+        put_value(size, value, out)?;
+    }
+    Ok(())
+}
+
+fn put_parts(
+    shape: &Shape,
+    stamp: Stamp,
+    values: &[Held],
+    out: &mut Vec<u8>,
+) -> Result<(), AllocError>
+    requires fits { AllByRecursion (FitsValue (size_of shape.now.format)) (map value_of values.now) }
+    ensures ok { OnOk result (out.new.items ≡ out.old.items
+        ++ (stamp_text stamp ++ flat_map (least_value_text (size_of shape.now.format)) (map value_of values.now))) }
+    ensures kept { OnErr result (KeepsFront out.old.items out.new.items) }
+{
+    put_stamp(stamp, out)?;
+    put_values(size_of_format(shape.format), values, out)
+}
+
+/// Appends the text of a sample with the least widths.
+pub fn put_sample(shape: &Shape, sample: &Sample, out: &mut Vec<u8>) -> Result<(), Memory>
+    requires { FitsShape shape.now sample.now }
+    ensures ok { OnOk result (out.new.items ≡ out.old.items ++ least_sample_text shape.now sample.now) }
+    ensures memory { OnErr result (out.new.items ≡ out.old.items) }
+{
+    let start = out.len();
+    let put = put_parts(shape, sample.stamp, &sample.values, out);
+    if put.is_err() {
+        out.truncate(start);
+        return Err(Memory);
+    }
+    Ok(())
+}
+
+/// Appends the least text of a borrowed sample. Want of memory leaves `out` as it was.
+pub fn put_view(shape: &Shape, view: &SampleView<'_>, out: &mut Vec<u8>) -> Result<(), Memory>
+    requires { FitsShape shape.now view.now }
+    ensures ok { OnOk result (out.new.items ≡ out.old.items ++ least_sample_text shape.now view.now) }
+    ensures memory { OnErr result (out.new.items ≡ out.old.items) }
+{
+    put_sample(shape, view.sample(), out)
+}

@@ -1,0 +1,4 @@
+pub mod Varlen
+pub mod Reading
+pub mod Sample
+pub mod Shape
