@@ -1,3 +1,0 @@
-//! Chunks to bytes, and bytes to a sink.
-#![tactic(auto)]
-
