@@ -4,27 +4,13 @@ ghost use Rattle.xdf_model.specs.Sample.{FitsValue, FitsShape, size_of, stamp_te
 ghost use Rattle.sample_values.specs.View.{value_of, KeepsFront};
 
 use crate::sample::{Held, Sample};
+use crate::size::size_of_format;
 use crate::view::SampleView;
 use byteorder::{ByteOrder, LittleEndian};
 use rec_base::Memory;
 use std::alloc::AllocError;
 use xdf_lengths::put_num;
-use xdf_model::{Format, Shape, Stamp};
-
-/// The bytes of a number of a format, 0 for texts.
-pub fn size_of_format(format: Format) -> u8
-    ensures { result ≡ size_of format }
-{
-    match format {
-        Format::Float32 => 4,
-        Format::Double64 => 8,
-        Format::Text => 0,
-        Format::Int32 => 4,
-        Format::Int16 => 2,
-        Format::Int8 => 1,
-        Format::Int64 => 8,
-    }
-}
+use xdf_model::{Shape, Stamp};
 
 fn put_stamp(stamp: Stamp, out: &mut Vec<u8>) -> Result<(), AllocError>
     ensures ok { OnOk result (out.new.items ≡ out.old.items ++ stamp_text stamp) }
