@@ -74,7 +74,12 @@ fn put_parts(
     put_values(size_of_format(shape.format), values, out)
 }
 
-/// Appends the text of a sample with the least widths.
+/// Appends the bytes of a sample to `out`: the byte 0, or the byte 8 and the stamp in 8 bytes; then
+/// each number in the bytes of its format, and each text behind its length in the least width. All
+/// numbers have their lowest byte first (XDF 1.0, "Samples chunk").
+///
+/// `Memory` comes for want of memory alone, and leaves what `out` holds as it was, also where it grew
+/// before.
 pub fn put_sample(shape: &Shape, sample: &Sample, out: &mut Vec<u8>) -> Result<(), Memory>
     requires { FitsShape shape.now sample.now }
     ensures ok { OnOk result (out.new.items ≡ out.old.items ++ least_sample_text shape.now sample.now) }
@@ -89,7 +94,7 @@ pub fn put_sample(shape: &Shape, sample: &Sample, out: &mut Vec<u8>) -> Result<(
     Ok(())
 }
 
-/// Appends the least text of a borrowed sample. Want of memory leaves `out` as it was.
+/// Appends the bytes of a borrowed sample to `out`, as [`put_sample`] does.
 pub fn put_view(shape: &Shape, view: &SampleView<'_>, out: &mut Vec<u8>) -> Result<(), Memory>
     requires { FitsShape shape.now view.now }
     ensures ok { OnOk result (out.new.items ≡ out.old.items ++ least_sample_text shape.now view.now) }

@@ -71,7 +71,7 @@ fn values_size(size: u8, values: &[Held]) -> u64
     }
 }
 
-/// How many bytes [`put_sample`](crate::put_sample) appends.
+/// How many bytes [`put_sample`](crate::put_sample) appends: with numbers without a look at each.
 pub fn sample_size(shape: &Shape, sample: &Sample) -> u64
     requires fits { FitsShape shape.now sample.now }
     requires room { length (least_sample_text shape.now sample.now) < 2 ^ 64 }

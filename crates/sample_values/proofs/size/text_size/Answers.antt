@@ -1,6 +1,6 @@
 use Rattle.std.proofs.Common.{◌≡◌, length, ap, arith}
 use Rattle.xdf_model.specs.Varlen.{least_width}
-use Rattle.sample_values.proofs.Sizes.{length-text}
+use Rattle.sample_values.proofs.Lengths.{length-text}
 use Rattle.sample_values.proofs.size.text_size.Goals as goal
 
 pub returns-in-Text : goal.returns-in-Text

@@ -2,7 +2,7 @@ use Rattle.std.proofs.Common.{◌≡◌, length, get_or, arith}
 use Rattle.xdf_model.specs.Sample.{least_value_text}
 use Rattle.sample_values.specs.View.{value_of}
 use Rattle.sample_values.proofs.Appending.{fits_at}
-use Rattle.sample_values.proofs.Sizes.{length-front}
+use Rattle.sample_values.proofs.Lengths.{length-front}
 use Rattle.sample_values.proofs.size.texts_size.Goals as goal
 
 pub text_size-size-requires-clause-fits : goal.text_size-size-requires-clause-fits

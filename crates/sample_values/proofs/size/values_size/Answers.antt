@@ -1,5 +1,5 @@
 use Rattle.std.proofs.Common.{arith}
-use Rattle.sample_values.proofs.Sizes.{length-numbers}
+use Rattle.sample_values.proofs.Lengths.{length-numbers}
 use Rattle.sample_values.proofs.size.values_size.Goals as goal
 
 pub overflow_mul-result : goal.overflow_mul-result
