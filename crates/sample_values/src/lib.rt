@@ -1,11 +1,29 @@
-//! Samples and their XDF text.
+//! Samples: their values, whether they fit a shape, and their bytes in a file.
+//!
+//! A sample is a time stamp and a value for each channel. This crate holds one, says whether it has
+//! a shape, says how long its text is and appends that text with the least widths. It promises that
+//! the text is the least one of the definition, and that want of memory leaves the output as it was.
+//!
+//! On the way a sample's byte is copied twice: once as it comes in (a number as its pattern of bits,
+//! a text by `push_text`), and once as it goes into `out`.
 #![tactic(auto)]
 
+mod fits;
+mod format;
 mod put;
+mod reverse;
 mod sample;
+mod size;
 mod view;
 
-pub use put::{put_sample, put_view, size_of_format};
+pub use fits::sample_fits;
+pub use format::{format_name, format_of_name};
+pub use put::{put_sample, put_view};
+pub use reverse::reverse_value;
 pub use sample::Sample;
+pub use size::{sample_size, size_of_format, view_size};
 pub use view::SampleView;
 pub use xdf_model::{Format, Shape, Stamp};
+
+#[cfg(test)]
+mod tests;

@@ -4,27 +4,13 @@ ghost use Rattle.xdf_model.specs.Sample.{FitsValue, FitsShape, size_of, stamp_te
 ghost use Rattle.sample_values.specs.View.{value_of, KeepsFront};
 
 use crate::sample::{Held, Sample};
+use crate::size::size_of_format;
 use crate::view::SampleView;
 use byteorder::{ByteOrder, LittleEndian};
 use rec_base::Memory;
 use std::alloc::AllocError;
 use xdf_lengths::put_num;
-use xdf_model::{Format, Shape, Stamp};
-
-/// The bytes of a number of a format, 0 for texts.
-pub fn size_of_format(format: Format) -> u8
-    ensures { result ≡ size_of format }
-{
-    match format {
-        Format::Float32 => 4,
-        Format::Double64 => 8,
-        Format::Text => 0,
-        Format::Int32 => 4,
-        Format::Int16 => 2,
-        Format::Int8 => 1,
-        Format::Int64 => 8,
-    }
-}
+use xdf_model::{Shape, Stamp};
 
 fn put_stamp(stamp: Stamp, out: &mut Vec<u8>) -> Result<(), AllocError>
     ensures ok { OnOk result (out.new.items ≡ out.old.items ++ stamp_text stamp) }
@@ -88,7 +74,12 @@ fn put_parts(
     put_values(size_of_format(shape.format), values, out)
 }
 
-/// Appends the text of a sample with the least widths.
+/// Appends the bytes of a sample to `out`: the byte 0, or the byte 8 and the stamp in 8 bytes; then
+/// each number in the bytes of its format, and each text behind its length in the least width. All
+/// numbers have their lowest byte first (XDF 1.0, "Samples chunk").
+///
+/// `Memory` comes for want of memory alone, and leaves what `out` holds as it was, also where it grew
+/// before.
 pub fn put_sample(shape: &Shape, sample: &Sample, out: &mut Vec<u8>) -> Result<(), Memory>
     requires { FitsShape shape.now sample.now }
     ensures ok { OnOk result (out.new.items ≡ out.old.items ++ least_sample_text shape.now sample.now) }
@@ -103,7 +94,7 @@ pub fn put_sample(shape: &Shape, sample: &Sample, out: &mut Vec<u8>) -> Result<(
     Ok(())
 }
 
-/// Appends the least text of a borrowed sample. Want of memory leaves `out` as it was.
+/// Appends the bytes of a borrowed sample to `out`, as [`put_sample`] does.
 pub fn put_view(shape: &Shape, view: &SampleView<'_>, out: &mut Vec<u8>) -> Result<(), Memory>
     requires { FitsShape shape.now view.now }
     ensures ok { OnOk result (out.new.items ≡ out.old.items ++ least_sample_text shape.now view.now) }

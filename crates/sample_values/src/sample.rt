@@ -9,15 +9,17 @@ use std::alloc::Global;
 use std::marker::Model;
 use xdf_model::Stamp;
 
-/// A value as it is kept.
+// A value as it is kept: the pattern of a number, or the bytes of a text.
 #[derive(Debug, Drop)]
 pub(crate) enum Held {
     Number(u64),
     Text(Vec<u8>),
 }
 
-/// A sample: a time stamp and the values, one a channel. A value is a number of at most 64 bits,
-/// kept as its pattern, or some bytes (XDF 1.0, "Samples chunk").
+/// A sample: a time stamp and a value for each channel (XDF 1.0, "Samples chunk").
+///
+/// A value is a number of at most 64 bits, kept as its pattern, or a text, which may be any bytes.
+/// Nothing here knows the shape of a stream: [`sample_fits`](crate::sample_fits) is the test.
 #[derive(Debug, Drop)]
 pub struct Sample {
     pub(crate) stamp: Stamp,
@@ -35,7 +37,7 @@ impl Model for Sample {
 }
 
 impl Sample {
-    /// A sample that has no values yet.
+    /// A sample that has no values yet. It takes no memory before the first value.
     pub fn new(alloc: Global, stamp: Stamp) -> Sample
         ensures { result ≡ record { stamp = stamp; values = [] } }
     {
@@ -45,7 +47,9 @@ impl Sample {
         }
     }
 
-    /// Appends a number, as its pattern of bits. Want of memory changes nothing.
+    /// Appends a number, as its pattern of bits: of a float the IEEE 754 pattern, of a signed number
+    /// the two's complement in the bytes of its format. `Memory` comes for want of memory alone, and
+    /// leaves the sample as it was.
     pub fn push_bits(&mut self, bits: u64) -> Result<(), Memory>
         ensures ok { OnOk result (self.new ≡ record { stamp = self.old.stamp; values = self.old.values ++ number bits ∷ [] }) }
         ensures memory { OnErr result (self.new ≡ self.old) }
@@ -54,7 +58,8 @@ impl Sample {
         Ok(())
     }
 
-    /// Appends a text, which is any bytes. Want of memory changes nothing.
+    /// Appends a text, which may be any bytes; they are copied into memory of `alloc`. `Memory` comes
+    /// for want of memory alone, and leaves the sample as it was.
     pub fn push_text(&mut self, alloc: Global, bytes: &[u8]) -> Result<(), Memory>
         ensures ok { OnOk result (self.new ≡ record { stamp = self.old.stamp; values = self.old.values ++ text bytes.now ∷ [] }) }
         ensures memory { OnErr result (self.new ≡ self.old) }
@@ -64,7 +69,7 @@ impl Sample {
         Ok(())
     }
 
-    /// The time stamp.
+    /// The time stamp: the pattern of an IEEE 754 double in seconds, or none.
     pub fn stamp(&self) -> Stamp
         ensures { result ≡ self.now.stamp }
     {
@@ -78,7 +83,7 @@ impl Sample {
         self.values.len()
     }
 
-    /// The number at a place, where a number stands there.
+    /// The pattern of the number of a channel, counted from 0, where a number stands there.
     pub fn bits_at(&self, i: usize) -> Option<u64>
         ensures { result ≡ bits_in (slice_get self.now.values i) }
     {
@@ -88,7 +93,7 @@ impl Sample {
         }
     }
 
-    /// The bytes at a place, where bytes stand there.
+    /// The bytes of the text of a channel, counted from 0, where a text stands there.
     pub fn text_at(&self, i: usize) -> Option<&[u8]>
         ensures { option_copied result ≡ text_in (slice_get self.now.values i) }
     {
@@ -98,7 +103,7 @@ impl Sample {
         }
     }
 
-    /// The same sample, borrowed.
+    /// The same sample, borrowed. Nothing is copied.
     pub fn view(&self) -> SampleView<'_>
         ensures { result ≡ self.now }
     {

@@ -6,7 +6,8 @@ use crate::sample::Sample;
 use std::marker::Model;
 use xdf_model::Stamp;
 
-/// A sample that stands elsewhere: a stamp and the values, one a channel.
+/// A sample that stands elsewhere, as in a chunk or a ring: a time stamp and a value for each
+/// channel, as in [`Sample`].
 #[derive(Debug, Drop)]
 pub struct SampleView<'a> {
     sample: &'a Sample,
@@ -33,7 +34,7 @@ impl<'a> SampleView<'a> {
         self.sample
     }
 
-    /// The time stamp.
+    /// The time stamp: the pattern of an IEEE 754 double in seconds, or none.
     pub fn stamp(&self) -> Stamp
         ensures { result ≡ self.now.stamp }
     {
@@ -47,14 +48,14 @@ impl<'a> SampleView<'a> {
         self.sample.len()
     }
 
-    /// The number at a place, where a number stands there.
+    /// The pattern of the number of a channel, counted from 0, where a number stands there.
     pub fn bits_at(&self, i: usize) -> Option<u64>
         ensures { result ≡ bits_in (slice_get self.now.values i) }
     {
         self.sample.bits_at(i)
     }
 
-    /// The bytes at a place, where bytes stand there.
+    /// The bytes of the text of a channel, counted from 0, where a text stands there.
     pub fn text_at(&self, i: usize) -> Option<&[u8]>
         ensures { option_copied result ≡ text_in (slice_get self.now.values i) }
     {

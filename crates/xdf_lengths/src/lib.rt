@@ -1,4 +1,9 @@
-//! Numbers of width 1, 4 or 8.
+//! XDF's variable-length integers: a width byte of 1, 4 or 8, and then a number in so many bytes, the
+//! lowest first (XDF 1.0, "Variable-Length Integers").
+//!
+//! This crate reads one, sizes one and appends one. It promises that reading accepts every width and
+//! tells each fault exactly, and that what is appended has the least width. No byte of a number is
+//! copied more than once.
 #![tactic(auto)]
 
 ghost use Rattle.std.specs.Prelude.{◌≡◌, ◌++◌, ◌<◌, ◌≤◌, ℕ, length, OnOk, OnErr};
@@ -8,7 +13,11 @@ use byteorder::{ByteOrder, LittleEndian};
 use std::alloc::AllocError;
 pub use xdf_model::NumRead;
 
-/// What stands at the front of some bytes as a number with its width.
+/// What stands at the front of some bytes as a variable-length integer: a number of any of the three
+/// widths, also where a smaller one would do, and how many bytes it takes with its width byte, 2 to 9.
+///
+/// `Short` says that a byte that is needed isn't there, and comes also where there is no byte at all.
+/// `BadWidth` says that the first byte is none of 1, 4 and 8. Bytes behind the number don't matter.
 #[tactic(auto, unfolding(xdf_model::specs::Varlen::varlen_at))]
 pub fn read_num(bytes: &[u8]) -> NumRead
     ensures exact { result ≡ varlen_at bytes.now }
@@ -34,7 +43,7 @@ pub fn read_num(bytes: &[u8]) -> NumRead
     }
 }
 
-/// The least width that a number fits.
+/// The least width that a number fits, in bytes: 1, 4 or 8. [`put_num`] appends one byte more.
 pub fn num_size(n: u64) -> u8
     ensures { result ≡ least_width n }
 {
@@ -47,7 +56,9 @@ pub fn num_size(n: u64) -> u8
     }
 }
 
-/// Appends a number with the least width.
+/// Appends a number with the least width, the width byte first and the lowest byte next.
+///
+/// An `Err` comes for want of memory alone, and leaves what `out` holds as it was.
 #[tactic(auto, unfolding(xdf_model::specs::Varlen::least_varlen))]
 pub fn put_num(n: u64, out: &mut Vec<u8>) -> Result<(), AllocError>
     ensures ok { OnOk result (out.new.items ≡ out.old.items ++ least_varlen n) }
@@ -58,4 +69,32 @@ pub fn put_num(n: u64, out: &mut Vec<u8>) -> Result<(), AllocError>
     text[0] = width;
     LittleEndian::write_uint(&mut text[1..], n, width as usize);
     out.extend_from_slice(&text[..width as usize + 1])
+}
+
+#[cfg(test)]
+mod tests {
+    use super::*;
+    use std::test::Fail;
+
+    #[test]
+    fn worked_cases(rt: HostRuntime) -> Result<(), Fail> {
+        let of_58 = |used| NumRead::Read { value: 58, used };
+        for (bytes, want) in [
+            ([1, 58].as_slice(), of_58(2)),
+            ([4, 58, 0, 0, 0].as_slice(), of_58(5)),
+            ([8, 58, 0, 0, 0, 0, 0, 0, 0, 7].as_slice(), of_58(9)),
+            ([2].as_slice(), NumRead::BadWidth(2)),
+            ([4, 0, 0].as_slice(), NumRead::Short),
+            ([].as_slice(), NumRead::Short),
+        ] {
+            assert_eq!(rt; read_num(bytes), want, "at {bytes:?}");
+        }
+        for (n, size) in [(255, 1), (256, 4), (4_294_967_295, 4), (4_294_967_296, 8)] {
+            assert_eq!(rt; num_size(n), size, "at {n}");
+        }
+        let mut out = [7].to_vec(rt.alloc())?;
+        put_num(58, &mut out)?;
+        assert_eq!(rt; out.as_slice(), [7, 1, 58].as_slice());
+        Ok(())
+    }
 }
