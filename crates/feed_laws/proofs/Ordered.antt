@@ -1,6 +1,6 @@
 -- Numbers in a feed's order: what is written is read, and what was read stands there.
-use Rattle.std.proofs.Common.{◌≡◌, ℕ, zero, suc, ◌+◌, ◌-◌, ◌*◌, ◌/◌, ◌%◌, ◌^◌, ◌<◌, ◌≤◌, List, [], ◌∷◌, ◌++◌, length, take, refl, sym, ap, ◌∙◌, arith}
-use Rattle.std.proofs.Math.Nat.{mul-add-div, mul-add-mod_self_left, mod-eq_of_lt, div-eq_of_lt, div-one, one-le-pow, pow-succ', mul_assoc, mul_left_comm, mul_comm, pow-add}
+use Rattle.std.proofs.Common.{◌≡◌, ℕ, zero, suc, ◌+◌, ◌-◌, ◌*◌, ◌/◌, ◌%◌, ◌^◌, ◌<◌, ◌≤◌, List, [], ◌∷◌, ◌++◌, length, take, refl, sym, ap, ◌∙◌, arith, pow-add}
+use Rattle.std.proofs.Math.Nat.{mul-add-div, mul-add-mod_self_left, mod-eq_of_lt, div-eq_of_lt, div-one, one-le-pow, pow-succ', mul_assoc, mul_left_comm, mul_comm}
 use Rattle.std.specs.Int.{byte_at, bytes_high_first}
 use Rattle.byteorder.specs.Endian.{little_number, little_bytes, big_number, big_bytes, big_from}
 use Rattle.byteorder.specs.Numbers.{big_from-cons, big_from-append, big_from-lt, big_number-reads_back, little_from-append, length-bytes_high_first}
@@ -51,12 +51,12 @@ big_bytes-big_number (suc k) (c ∷ b) h le =
 
 -- what was read is what stands there
 pub ordered_bytes-ordered_number : (order : Order) (k : ℕ) (b : List ℕ) → IsBytes b → k ≤ length b → ordered_bytes order k (ordered_number order k b) ≡ take k b
-ordered_bytes-ordered_number Little = little_bytes-little_number
-ordered_bytes-ordered_number Big = big_bytes-big_number
+ordered_bytes-ordered_number Little k b h le = little_bytes-little_number k b h le
+ordered_bytes-ordered_number Big k b h le = big_bytes-big_number k b h le
 
 -- what was written is read
 pub ordered_number-again : (order : Order) (k n : ℕ) (rest : List ℕ) → n < 256 ^ k → ordered_number order k (ordered_bytes order k n ++ rest) ≡ n
-ordered_number-again Little = little_number-again
+ordered_number-again Little k n rest lt = little_number-again k n rest lt
 ordered_number-again Big k n rest lt = big_number-reads_back k n rest lt
 
 -- the number reads only its bytes
