@@ -4,7 +4,6 @@ ghost use Rattle.std.specs.Prelude.{◌≡◌, ◌≤◌, ◌<◌, ◌++◌, ◌
 ghost use Rattle.feed_model.specs.Feed.{IsFeedSample};
 ghost use Rattle.feed_model.specs.FeedReading.{feed_sample_at};
 ghost use Rattle.feed_samples.specs.Answers.{Answers};
-ghost use Rattle.xdf_model.specs.Sample.{Sample};
 
 use crate::fault::ReadFault;
 use crate::values::read_sample;
