@@ -16,10 +16,10 @@ use Rattle.chunk_laws.proofs.Spelled.{chunk_spelled, samples_content, chunk_shor
 use Rattle.recording_model.specs.declared.row.Row.{Row}
 use Rattle.recording_model.specs.declared.stream.StreamDoc.{StreamDoc}
 use Rattle.recording_model.specs.Ledger.{row_in, stream_samples, all_rows, ledger_rows}
-use Rattle.recording_model.specs.Batch.{Group, Divides, AreDivided, entries_from, entries_in, texts_of}
+use Rattle.recording_model.specs.Batch.{one_batch, Group, Divides, AreDivided, entries_from, entries_in, texts_of}
 use Rattle.recording_model.specs.Layout.{laid_chunks, boundary_gap}
 use Rattle.recording_model.specs.Recording.{IsRecording, headers, footers, file_document, ledger_document, footer_document, lost_in}
-use Rattle.record_writer.specs.OneBatch.{IsShortStream, one_batch, one_body, one_footers}
+use Rattle.record_writer.specs.OneBatch.{IsShortStream, one_body, one_footers}
 use Rattle.record_writer.proofs.Spelled.{ledger_shape, ledger_joins, stream_joins}
 
 -- the streams behind the headers

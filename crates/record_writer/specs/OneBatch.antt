@@ -5,12 +5,7 @@ use Rattle.xdf_model.specs.Shape.{shape_in}
 use Rattle.chunk_grammar.specs.declared.chunk.Chunk.{Chunk}
 use Rattle.chunk_grammar.specs.declared.chunk.Chunk.TheVariants.{Samples, StreamFooter}
 use Rattle.recording_model.specs.declared.stream.StreamDoc.{StreamDoc}
-use Rattle.recording_model.specs.Batch.{Batch, entries_from}
 use Rattle.recording_model.specs.Recording.{footer_document}
-
--- all samples of a feed, from position 0 on
-abbrev pub one_batch : List Sample → List Batch
-one_batch samples = record { place = 0; entries = entries_from 0 samples } ∷ []
 
 -- the Samples chunk, where there is a sample
 abbrev pub one_body : ℕ → List Sample → List Chunk

@@ -5,10 +5,10 @@ ghost use Rattle.std.specs.List.{AllByRecursion};
 ghost use Rattle.xdf_model.specs.Sample.{FitsShape};
 ghost use Rattle.chunk_grammar.specs.Chunk.{shape_of, IsChunkText, IsFileText, least_file_text};
 ghost use Rattle.chunk_grammar.specs.declared.chunk.Chunk.{Chunk as ChunkValue};
-ghost use Rattle.recording_model.specs.Batch.{texts_of};
+ghost use Rattle.recording_model.specs.Batch.{one_batch, texts_of};
 ghost use Rattle.recording_model.specs.Recording.{IsRecording, headers};
 ghost use Rattle.record_writer.specs.FileOf.{IsFileOf};
-ghost use Rattle.record_writer.specs.OneBatch.{IsShortStream, one_batch, one_body, one_footers};
+ghost use Rattle.record_writer.specs.OneBatch.{IsShortStream, one_body, one_footers};
 
 use crate::documents::{file_document, footer_document, ledger_document};
 use crate::file_text::FileText;

@@ -15,6 +15,15 @@ pub record Batch : Type 0 where
   pub place : ℕ
   pub entries : List Entry
 
+-- samples at consecutive positions from n on
+abbrev pub entries_from : ℕ → List Sample → List Entry
+entries_from n [] = []
+entries_from n (s ∷ more) = record { position = n; sample = s } ∷ entries_from (n + 1) more
+
+-- one batch of the first stream that has all samples of its feed
+abbrev pub one_batch : List Sample → List Batch
+one_batch samples = record { place = 0; entries = entries_from 0 samples } ∷ []
+
 -- samples of one place at consecutive positions from `first` on: at least one, and then more
 pub record Group : Type 0 where
   pub place : ℕ
@@ -28,11 +37,6 @@ samples_in g = g.sample ∷ g.more
 -- the position after the group's last
 abbrev pub end_of : Group → ℕ
 end_of g = g.first + length (samples_in g)
-
--- samples at consecutive positions from n on
-abbrev pub entries_from : ℕ → List Sample → List Entry
-entries_from n [] = []
-entries_from n (s ∷ more) = record { position = n; sample = s } ∷ entries_from (n + 1) more
 
 abbrev pub entries_in : Group → List Entry
 entries_in g = entries_from g.first (samples_in g)
