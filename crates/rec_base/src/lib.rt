@@ -21,6 +21,8 @@ mod piece;
 mod sink;
 mod source;
 mod take_first;
+#[cfg(test)]
+mod tests;
 mod word;
 
 pub use blob::Blob;
