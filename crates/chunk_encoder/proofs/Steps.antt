@@ -49,16 +49,19 @@ fits_all ctx chunk b id samples shape text is here =
     let same : r.1 ≡ shape = cc (r.2, here) in
     subst (λ (s : Shape). AllByRecursion (FitsShape s) samples) same (samples_fit r.1 samples r.4 r.6)
 
+-- the texts of samples whose stream has a shape
+pub texts_are : (ctx : Context) (id : ℕ) (samples : List Sample) (shape : Shape) → shape_of ctx id ≡ Some shape → texts_in (shape_of ctx id) samples ≡ flat_map (least_sample_text shape) samples
+texts_are ctx id samples shape here = ap (λ (o : Option Shape). texts_in o samples) here
+
 -- how long the content of samples is
 pub length-samples : (ctx : Context) (chunk : Chunk) (id : ℕ) (samples : List Sample) (shape : Shape) → chunk ≡ Samples id samples → shape_of ctx id ≡ Some shape
     → length (least_content_text ctx chunk) ≡ 4 + (1 + least_width (length samples)) + length (flat_map (least_sample_text shape) samples)
 length-samples ctx chunk id samples shape is here =
     let count = least_varlen (length samples) in
-    let texts : texts_in (shape_of ctx id) samples ≡ flat_map (least_sample_text shape) samples = ap (λ (o : Option Shape). texts_in o samples) here in
     omega (
       arith,
       ap (λ (c : Chunk). length (least_content_text ctx c)) is,
-      ap length texts,
+      ap length (texts_are ctx id samples shape here),
       length-append (little_bytes 4 id ++ count) (texts_in (shape_of ctx id) samples),
       length-append (little_bytes 4 id) count,
       length-least_varlen (length samples),

@@ -11,11 +11,12 @@ use rec_base::Memory;
 use sample_values::{Shape, put_view};
 use xdf_lengths::put_num;
 
+// The bytes by which a reader finds its place again (XDF 1.0, "Boundary chunk").
 const BOUNDARY: [u8; 16] = [
     0x43, 0xA5, 0x46, 0xDC, 0xCB, 0xF5, 0x41, 0x0F, 0xB3, 0x0E, 0xD5, 0x46, 0x73, 0x83, 0xCB, 0xE4,
 ];
 
-/// Appends a number of 1 to 8 bytes, the lowest first.
+// Appends a number of 1 to 8 bytes, the lowest first.
 pub(crate) fn put_number(size: usize, n: u64, out: &mut Vec<u8>) -> Result<(), Memory>
     requires low { 1 ≤ size }
     requires high { size ≤ 8 }
@@ -42,7 +43,7 @@ fn put_samples(shape: &Shape, samples: &SampleList, out: &mut Vec<u8>) -> Result
     Ok(())
 }
 
-/// Appends the content of a chunk.
+// Appends the content of a chunk, each part directly after the one before.
 pub(crate) fn put_content(ctx: &Context, chunk: &Chunk, out: &mut Vec<u8>) -> Result<(), Memory>
     requires { (b : List ℕ) × IsContentText ctx.now chunk.now b }
     ensures ok { OnOk result (out.new.items ≡ out.old.items ++ least_content_text ctx.now chunk.now) }

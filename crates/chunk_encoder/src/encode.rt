@@ -8,6 +8,7 @@ use chunk_grammar::{Chunk, Context, tag_of_chunk};
 use rec_base::Memory;
 use xdf_lengths::{num_size, put_num};
 
+// The length, the tag and the content, for which room is made first.
 #[tactic(auto, unfolding(chunk_grammar::specs::Chunk::least_chunk_text))]
 fn put_parts(ctx: &Context, chunk: &Chunk, out: &mut Vec<u8>) -> Result<(), Memory>
     requires { (b : List ℕ) × IsChunkText ctx.now chunk.now b }
@@ -21,7 +22,16 @@ fn put_parts(ctx: &Context, chunk: &Chunk, out: &mut Vec<u8>) -> Result<(), Memo
     put_content(ctx, chunk, out)
 }
 
-/// Appends the text of a chunk with the least widths.
+/// Appends the bytes of a chunk to `out`: the length of what follows it in the least width, the tag
+/// in 2 bytes and the content, all numbers with their lowest byte first (XDF 1.0, "Chunk layout").
+/// In `ctx` are the streams whose headers came before.
+///
+/// It is asked that the chunk has a text there: the stream of samples or of a footer has a header
+/// before it and that of a header hasn't, a header tells a shape, samples fit the shape of their
+/// stream, and the length is at most 67,108,864. All but the first are this project's own rules.
+///
+/// `Memory` comes for want of memory alone, and leaves what `out` holds as it was. `out` grows at
+/// most once.
 pub fn encode_chunk(ctx: &Context, chunk: &Chunk, out: &mut Vec<u8>) -> Result<(), Memory>
     requires { (b : List ℕ) × IsChunkText ctx.now chunk.now b }
     ensures ok { OnOk result (out.new.items ≡ out.old.items ++ least_chunk_text ctx.now chunk.now) }

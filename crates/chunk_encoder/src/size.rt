@@ -7,6 +7,7 @@ use chunk_grammar::{Chunk, Context, SampleList};
 use sample_values::{Shape, view_size};
 use xdf_lengths::num_size;
 
+// What the samples of a chunk take, one directly after the other.
 fn samples_size(shape: &Shape, samples: &SampleList) -> u64
     requires fits { AllByRecursion (FitsShape shape.now) samples.now }
     requires room { length (flat_map (least_sample_text shape.now) samples.now) < 2 ^ 64 }
@@ -21,7 +22,8 @@ fn samples_size(shape: &Shape, samples: &SampleList) -> u64
     size
 }
 
-/// How many bytes the content of a chunk takes, with the least widths.
+/// How many bytes the content of a chunk takes with the least widths: what stands behind its length
+/// and its tag.
 pub fn content_size(ctx: &Context, chunk: &Chunk) -> u64
     requires { (b : List ℕ) × IsChunkText ctx.now chunk.now b }
     ensures { result ≡ length (least_content_text ctx.now chunk.now) }
