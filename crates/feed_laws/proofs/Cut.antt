@@ -1,5 +1,5 @@
 -- What the laws say of samples.
-use Rattle.std.proofs.Common.{◌≡◌, ℕ, suc, ◌+◌, ◌-◌, ◌<◌, ◌≤◌, List, [], ◌∷◌, ◌++◌, length, take, drop, Result, Ok, Err, refl, sym, ap, ◌∙◌, subst, arith}
+use Rattle.std.proofs.Common.{◌≡◌, ℕ, ◌+◌, ◌-◌, ◌<◌, List, [], ◌++◌, length, take, drop, Ok, Err, refl, sym, ap, ◌∙◌, arith}
 use Rattle.std.specs.Prelude.{◌↔◌}
 use Rattle.std.proofs.lemmas.List.{take_at, drop_at, append-nil, length-append}
 use Rattle.xdf_model.specs.declared.types.Shape.{Shape}
@@ -10,7 +10,7 @@ use Rattle.xdf_model_laws.proofs.Readers.{bind_ok}
 use Rattle.feed_model.specs.declared.Order.{Order}
 use Rattle.feed_model.specs.Feed.{text_limit, IsFeedSample}
 use Rattle.feed_model.specs.FeedReading.{FeedFault, short, bad_tag, bad_width, too_long, Taken, tag_at, values_at, feed_sample_at}
-use Rattle.feed_laws.specs.Followed.{farther, followed, StandsWithin}
+use Rattle.feed_laws.specs.Followed.{farther, followed}
 use Rattle.feed_laws.proofs.Steps.{taken, failed, same_value, same_rest}
 use Rattle.feed_laws.proofs.Samples.{reads_sample}
 use Rattle.feed_laws.proofs.Steady.{tag_takes, steady_values, steady_sample}

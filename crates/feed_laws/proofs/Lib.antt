@@ -5,3 +5,4 @@ pub mod Samples
 pub mod More
 pub mod Steady
 pub mod Cut
+pub mod Faults

@@ -1,18 +1,13 @@
 -- More bytes behind an answer other than short don't change it, and what is told stands within the bytes.
-use Rattle.std.proofs.Common.{◌≡◌, ℕ, zero, suc, ◌+◌, ◌-◌, ◌<◌, ◌≤◌, Bool, true, false, cond, eqb, ltb, List, [], ◌∷◌, ◌++◌, length, take, drop, Ok, Err, refl, sym, ap, ◌∙◌, subst, append_assoc, arith, inl, inr}
+use Rattle.std.proofs.Common.{◌≡◌, ℕ, ◌≤◌, true, false, cond, ltb, List, [], ◌++◌, length, take, drop, Ok, Err, refl, sym, ap, ◌∙◌, subst, append_assoc, arith, inl, inr}
 use Rattle.std.proofs.lemmas.Bool.{cases_lt, le-ltb, lt-ltb}
 use Rattle.std.proofs.lemmas.List.{length-append, take-append-le, drop-append-le, take-append-drop}
-use Rattle.xdf_model.specs.declared.types.Shape.{Shape}
-use Rattle.xdf_model.specs.declared.types.Stamp.{Stamp}
-use Rattle.xdf_model.specs.declared.types.Stamp.TheVariants.{None, Bits}
 use Rattle.xdf_model.specs.Reading.{◌>>=◌}
-use Rattle.xdf_model.specs.Sample.{Value, number, text, Sample, size_of}
 use Rattle.feed_model.specs.declared.Order.{Order}
-use Rattle.feed_model.specs.Feed.{is_text_width, text_size, text_limit}
-use Rattle.feed_model.specs.FeedReading.{FeedFault, short, bad_tag, bad_width, too_long, Taken, ordered_number, ordered_at, bytes_at, tag_at, sized_text_at, text_at, bits_at, value_at, values_at, feed_sample_at}
-use Rattle.feed_laws.specs.Followed.{farther, followed, StandsWithin}
+use Rattle.feed_model.specs.FeedReading.{FeedFault, short, bad_tag, bad_width, too_long, Taken, ordered_number, ordered_at, bytes_at}
+use Rattle.feed_laws.specs.Followed.{followed, StandsWithin}
 use Rattle.feed_laws.proofs.Ordered.{ordered_number-append}
-use Rattle.feed_laws.proofs.Steps.{taken, failed, same_value, same_rest}
+use Rattle.feed_laws.proofs.Steps.{taken, failed, same_rest}
 
 -- what a reader tells of some bytes is told of every longer input, and stands within them
 pub record IsSteady {A : Type 0} (read : List ℕ → Taken A) : Type 0 where
@@ -76,16 +71,16 @@ steady_bytes n value same = record {
   more = λ b more h. elim (cases_lt (length b) n) [
     | inl few ↦ let t : ltb (length b) n ≡ true = lt-ltb _ _ few in absurd (h (rw t refl))
     | inr enough ↦
-      let t : ltb (length b) n ≡ false = le-ltb _ _ enough in
-      let u : ltb (length (b ++ more)) n ≡ false = le-ltb _ _ (omega (arith, length-append b more)) in
-      rw (t, u, same b more enough, drop-append-le n b more enough) refl
+        let t : ltb (length b) n ≡ false = le-ltb _ _ enough in
+        let u : ltb (length (b ++ more)) n ≡ false = le-ltb _ _ (omega (arith, length-append b more)) in
+        rw (t, u, same b more enough, drop-append-le n b more enough) refl
   ];
   rest = λ b a rest e. elim (cases_lt (length b) n) [
     | inl few ↦ let t : ltb (length b) n ≡ true = lt-ltb _ _ few in absurd (let k = rw t at e in cc)
     | inr enough ↦
-      let t : ltb (length b) n ≡ false = le-ltb _ _ enough in
-      let k : taken (value b) (drop n b) ≡ taken a rest = rw t at e in
-      (take n b, sym (take-append-drop n b) ∙ ap (λ (y : List ℕ). take n b ++ y) (same_rest k))
+        let t : ltb (length b) n ≡ false = le-ltb _ _ enough in
+        let k : taken (value b) (drop n b) ≡ taken a rest = rw t at e in
+        (take n b, sym (take-append-drop n b) ∙ ap (λ (y : List ℕ). take n b ++ y) (same_rest k))
   ];
   fault = λ b f e. elim (cases_lt (length b) n) [
     | inl few ↦ let t : ltb (length b) n ≡ true = lt-ltb _ _ few in let k : failed short ≡ failed f = rw t at e in let g : short ≡ f = cc in subst (StandsWithin (length b)) g tt

@@ -1,8 +1,8 @@
 -- Numbers in a feed's order: what is written is read, and what was read stands there.
 use Rattle.std.proofs.Common.{◌≡◌, ℕ, zero, suc, ◌+◌, ◌-◌, ◌*◌, ◌/◌, ◌%◌, ◌^◌, ◌<◌, ◌≤◌, List, [], ◌∷◌, ◌++◌, length, take, refl, sym, ap, ◌∙◌, arith, pow-add}
-use Rattle.std.proofs.Math.Nat.{mul-add-div, mul-add-mod_self_left, mod-eq_of_lt, div-eq_of_lt, div-one, one-le-pow, pow-succ', mul_assoc, mul_left_comm, mul_comm}
+use Rattle.std.proofs.Math.Nat.{mul-add-div, mul-add-mod_self_left, mod-eq_of_lt, div-eq_of_lt, div-one, one-le-pow, pow-succ', mul_left_comm, mul_comm}
 use Rattle.std.specs.Int.{byte_at, bytes_high_first}
-use Rattle.byteorder.specs.Endian.{little_number, little_bytes, big_number, big_bytes, big_from}
+use Rattle.byteorder.specs.Endian.{big_number, big_bytes, big_from}
 use Rattle.byteorder.specs.Numbers.{big_from-cons, big_from-append, big_from-lt, big_number-reads_back, little_from-append, length-bytes_high_first}
 use Rattle.xdf_model_laws.proofs.Bytes.{IsBytes, IsBytes-tail, little_bytes-little_number, length-little_bytes, little_number-again, little_number-lt}
 use Rattle.feed_model.specs.declared.Order.{Order}
@@ -22,9 +22,9 @@ byte_at-above : (n d c m : ℕ) → byte_at n (c * 256 ^ (n + suc d) + m) ≡ by
 byte_at-above n d c m =
     let power : 256 ^ (n + suc d) ≡ 256 ^ n * (256 * 256 ^ d) = pow-add 256 n (suc d) ∙ ap (λ (p : ℕ). 256 ^ n * p) (pow-succ' 256 d) in
     let front : c * 256 ^ (n + suc d) ≡ 256 ^ n * (256 * (c * 256 ^ d)) =
-        ap (λ (p : ℕ). c * p) power ∙ mul_left_comm c (256 ^ n) (256 * 256 ^ d) ∙ ap (λ (p : ℕ). 256 ^ n * p) (mul_left_comm c 256 (256 ^ d)) in
+    ap (λ (p : ℕ). c * p) power ∙ mul_left_comm c (256 ^ n) (256 * 256 ^ d) ∙ ap (λ (p : ℕ). 256 ^ n * p) (mul_left_comm c 256 (256 ^ d)) in
     let divided : (c * 256 ^ (n + suc d) + m) / 256 ^ n ≡ 256 * (c * 256 ^ d) + m / 256 ^ n =
-        ap (λ (p : ℕ). (p + m) / 256 ^ n) front ∙ mul-add-div (above_zero n) (256 * (c * 256 ^ d)) m in
+    ap (λ (p : ℕ). (p + m) / 256 ^ n) front ∙ mul-add-div (above_zero n) (256 * (c * 256 ^ d)) m in
     byte_at-div n (c * 256 ^ (n + suc d) + m) ∙ ap (λ (p : ℕ). p % 256) divided ∙ mul-add-mod_self_left 256 (c * 256 ^ d) (m / 256 ^ n) ∙ sym (byte_at-div n m)
 
 bytes_high_first-above : (n p c m : ℕ) → n ≤ p → bytes_high_first n (c * 256 ^ p + m) ≡ bytes_high_first n m
@@ -44,7 +44,7 @@ big_bytes-big_number (suc k) (c ∷ b) h le =
     let low : c < 256 = h 0 in
     let below : m < 256 ^ k = big_from-lt 0 k b (IsBytes-tail c b h) in
     let quotient : (c * 256 ^ k + m) / 256 ^ k ≡ c =
-        ap (λ (p : ℕ). (p + m) / 256 ^ k) (mul_comm c (256 ^ k)) ∙ mul-add-div (above_zero k) c m ∙ ap (λ (q : ℕ). c + q) (div-eq_of_lt below) ∙ omega arith in
+    ap (λ (p : ℕ). (p + m) / 256 ^ k) (mul_comm c (256 ^ k)) ∙ mul-add-div (above_zero k) c m ∙ ap (λ (q : ℕ). c + q) (div-eq_of_lt below) ∙ omega arith in
     let head : byte_at k (c * 256 ^ k + m) ≡ c = byte_at-div k (c * 256 ^ k + m) ∙ ap (λ (q : ℕ). q % 256) quotient ∙ mod-eq_of_lt low in
     let tail : bytes_high_first k (c * 256 ^ k + m) ≡ take k b = bytes_high_first-above k k c m (omega arith) ∙ big_bytes-big_number k b (IsBytes-tail c b h) (omega arith) in
     rw (moved, head, tail) refl

@@ -1,19 +1,18 @@
 -- The reader of samples fits their texts.
-use Rattle.std.proofs.Common.{◌≡◌, ℕ, zero, suc, ◌+◌, ◌-◌, ◌≤◌, List, [], ◌∷◌, ◌++◌, length, refl, sym, ap, ◌∙◌, subst, append_assoc, arith}
+use Rattle.std.proofs.Common.{◌≡◌, ℕ, zero, suc, ◌-◌, ◌≤◌, List, [], ◌∷◌, ◌++◌, length, refl, sym, ap, ◌∙◌, subst, append_assoc, arith}
 use Rattle.std.specs.Prelude.{sum_by}
 use Rattle.std.specs.List.{AllByRecursion}
 use Rattle.std.proofs.lemmas.List.Sums.{sum_by-cons}
 use Rattle.xdf_model.specs.declared.types.Shape.{Shape}
-use Rattle.xdf_model.specs.declared.types.Stamp.{Stamp}
 use Rattle.xdf_model.specs.Reading.{◌>>=◌}
 use Rattle.xdf_model.specs.Sample.{Value, number, text, Sample, size_of, FitsValue, FitsShape, Joined}
 use Rattle.xdf_model_laws.proofs.Bytes.{IsBytes, IsBytes-rest}
 use Rattle.xdf_model_laws.proofs.Readers.{bind_ok}
 use Rattle.feed_model.specs.declared.Order.{Order}
 use Rattle.feed_model.specs.Feed.{tag_text, IsFeedValue, text_size, text_limit, IsFeedSample}
-use Rattle.feed_model.specs.FeedReading.{Taken, tag_at, value_at, values_at, feed_sample_at}
+use Rattle.feed_model.specs.FeedReading.{tag_at, value_at, values_at, feed_sample_at}
 use Rattle.feed_laws.proofs.Steps.{taken, same_value, same_rest}
-use Rattle.feed_laws.proofs.Whole.{IsReader, InRoom, reads_tag, reads_value}
+use Rattle.feed_laws.proofs.Whole.{IsReader, reads_tag, reads_value}
 
 -- ---- values
 

@@ -1,20 +1,16 @@
 -- The readers fit the relations: what is found stands there, and what stands there is found.
-use Rattle.std.proofs.Common.{◌≡◌, ℕ, zero, suc, ◌+◌, ◌-◌, ◌^◌, ◌<◌, ◌≤◌, Bool, true, false, cond, eqb, ltb, List, [], ◌∷◌, ◌++◌, length, take, drop, Ok, Err, refl, sym, ap, ◌∙◌, subst, append_assoc, arith, inl, inr, ◌⊎◌}
-use Rattle.std.specs.Prelude.{sum_by, IsTrue}
-use Rattle.std.specs.List.{AllByRecursion}
+use Rattle.std.proofs.Common.{◌≡◌, ℕ, zero, suc, ◌+◌, ◌^◌, ◌<◌, ◌≤◌, Bool, true, false, cond, eqb, ltb, List, [], ◌∷◌, ◌++◌, length, take, drop, Err, refl, sym, ap, ◌∙◌, subst, append_assoc, arith, inl, inr, ◌⊎◌}
 use Rattle.std.proofs.lemmas.Bool.{ltb-false, le-ltb, eqb-true}
 use Rattle.std.proofs.lemmas.List.{take_at, drop_at, take-append-drop, length-append, length-take}
-use Rattle.std.proofs.lemmas.List.Sums.{sum_by-cons}
-use Rattle.xdf_model.specs.declared.types.Shape.{Shape}
 use Rattle.xdf_model.specs.declared.types.Stamp.{Stamp}
 use Rattle.xdf_model.specs.declared.types.Stamp.TheVariants.{None, Bits}
 use Rattle.xdf_model.specs.Reading.{◌>>=◌}
-use Rattle.xdf_model.specs.Sample.{Value, number, text, Sample, size_of, FitsValue, FitsStamp, FitsShape, Joined}
+use Rattle.xdf_model.specs.Sample.{Value, number, text, FitsStamp}
 use Rattle.xdf_model_laws.proofs.Bytes.{IsBytes, IsBytes-rest, IsBytes-tail}
 use Rattle.xdf_model_laws.proofs.Readers.{bind_ok, guard_ok}
 use Rattle.feed_model.specs.declared.Order.{Order}
-use Rattle.feed_model.specs.Feed.{ordered_bytes, tag_text, is_text_width, IsFeedValue, text_size, text_limit, IsFeedSample}
-use Rattle.feed_model.specs.FeedReading.{FeedFault, short, bad_tag, bad_width, too_long, Taken, ordered_number, ordered_at, bytes_at, tag_at, sized_text_at, text_at, bits_at, value_at, values_at, feed_sample_at}
+use Rattle.feed_model.specs.Feed.{ordered_bytes, tag_text, is_text_width, IsFeedValue, text_size}
+use Rattle.feed_model.specs.FeedReading.{FeedFault, short, bad_tag, bad_width, too_long, Taken, ordered_number, ordered_at, bytes_at, tag_at, sized_text_at, text_at, bits_at, value_at}
 use Rattle.feed_laws.proofs.Ordered.{ordered_bytes-ordered_number, ordered_number-again, ordered_number-lt, length-ordered_bytes}
 use Rattle.feed_laws.proofs.Steps.{taken, same_value, same_rest, refused_not, allowed}
 
