@@ -5,6 +5,7 @@ mod bytes;
 mod fault;
 mod feed;
 mod input;
+mod output;
 mod plan;
 mod words;
 
