@@ -1,5 +1,5 @@
 -- The samples of a feed (LSL data protocol 1.10): a tag, a time stamp where the tag says so, and a value for each channel.
-use Rattle.std.specs.Prelude.{◌≡◌, ℕ, ◌+◌, ◌<◌, ◌≤◌, ◌^◌, ◌==◌, ◌||◌, Bool, IsTrue, List, [], ◌∷◌, ◌++◌, length, sum_by}
+use Rattle.std.specs.Prelude.{◌≡◌, ℕ, ◌<◌, ◌≤◌, ◌^◌, ◌==◌, ◌||◌, Bool, IsTrue, List, [], ◌∷◌, ◌++◌, length, sum_by}
 use Rattle.byteorder.specs.Endian.{little_bytes, big_bytes}
 use Rattle.xdf_model.specs.declared.types.Shape.{Shape}
 use Rattle.xdf_model.specs.declared.types.Stamp.{Stamp}

@@ -1,9 +1,11 @@
+pub mod Buffer
+pub mod Calls
 pub mod Causes
 pub mod Contents
 pub mod Docked
+pub mod Files
 pub mod Known
+pub mod MemDock
+pub mod MemSource
 pub mod Moved
 pub mod Pieces
-pub mod MemSource
-pub mod Files
-pub mod MemDock

@@ -3,42 +3,23 @@ ghost use Rattle.std.specs.Io.{ReadsAtMost};
 ghost use Rattle.std.specs.Io.KnownBytes.{ReadConsumes};
 ghost use Rattle.rec_base.specs.Causes.{HasCause};
 
-use std::alloc::{AllocError, AllocFailed};
+use crate::Failed;
 
-/// The outside failed.
-#[derive(Clone, Copy, Debug, PartialEq, Eq)]
-pub struct Failed;
-
-/// There was no memory.
-#[derive(Clone, Copy, Debug, PartialEq, Eq)]
-pub struct Memory;
-
-impl From<AllocError> for Memory {
-    fn from(_e: AllocError) -> Memory {
-        Memory
-    }
-}
-
-impl<T: Drop> From<AllocFailed<T>> for Memory {
-    fn from(_e: AllocFailed<T>) -> Memory {
-        Memory
-    }
-}
-
-/// What bytes are read from.
+/// What bytes are read from. This project's own; a read means what it means in `std::io::Read`.
 pub trait Source {
     /// The bytes still to come, where the source tells them.
     ghost left: { Self → Option (List ℕ) };
 
-    /// How often it failed.
+    /// How many reads failed.
     ghost faults: { Self → ℕ };
 
-    /// What marks this source, and no read changes.
+    /// What marks this source among others, and no read changes.
     ghost Mark: { Type 0 } = { Unit {0} };
 
     ghost mark: { Self → Self.Mark };
 
-    /// `Ok(0)` with room in the buffer is the end of input.
+    /// Reads some bytes into the front of the buffer, and answers how many. `Ok(0)` with room in the
+    /// buffer is the end of input. After `Failed` no byte is lost, and a later read may go on.
     fn read(&mut self, buf: &mut [u8]) -> Result<usize, Failed>
         ensures bound { ReadsAtMost result buf.new }
         ensures bytes { ReadConsumes (left self.old) (left self.new) result buf.new }

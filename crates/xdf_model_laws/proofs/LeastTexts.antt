@@ -64,3 +64,10 @@ sample_least shape s x r =
 pub samples_fit : (shape : Shape) (ss : List Sample) (x : List ℕ) → Joined (IsSampleText shape) ss x → AllByRecursion (FitsShape shape) ss
 samples_fit shape [] x r = tt
 samples_fit shape (s ∷ ss) x r = (r.2.fits, samples_fit shape ss r.1 r.3)
+
+-- the least text of a number is short
+pub least_small : (n : ℕ) → length (least_varlen n) ≤ 9
+unfolding least_varlen
+least_small n =
+    let width : least_width n ≤ 8 = grind (arith, nat_tests) in
+    omega (arith, length-little_bytes (least_width n) n, width)

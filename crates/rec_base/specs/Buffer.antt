@@ -1,0 +1,7 @@
+-- Bytes with a room.
+use Rattle.std.specs.Prelude.{ℕ, List}
+
+-- the bytes, and how many there may be
+pub record BufferState : Type 0 where
+  pub bytes : List ℕ
+  pub room : ℕ

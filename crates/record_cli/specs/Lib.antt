@@ -1,0 +1,5 @@
+pub mod Words
+pub mod Plan
+pub mod Feed
+pub mod Inputs
+pub mod Recorded

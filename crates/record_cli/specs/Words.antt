@@ -1,0 +1,15 @@
+-- The words of the command line. This project's own.
+use Rattle.std.specs.Prelude.{ℕ, List, [], ◌∷◌, Result, Ok, Err, codes, if◌then◌else◌}
+use Rattle.std.specs.Str.{bytes_eq}
+
+-- the plan's name and the output's, or the number of the first usage that the words break
+abbrev pub record_names : List (List ℕ) → Result (List ℕ × List ℕ) ℕ
+record_names [] = Err 3
+record_names (plan ∷ []) = Err 3
+record_names (plan ∷ out ∷ []) = if bytes_eq plan out then Err 5 else Ok (plan, out)
+record_names (plan ∷ out ∷ more ∷ words) = Err 3
+
+-- the words are `record PLAN OUT`
+abbrev pub record_words : List (List ℕ) → Result (List ℕ × List ℕ) ℕ
+record_words [] = Err 1
+record_words (command ∷ words) = if bytes_eq command (codes "record") then record_names words else Err 2

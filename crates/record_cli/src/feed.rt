@@ -1,0 +1,1 @@
+//! The captured feed of this stage.

@@ -1,0 +1,13 @@
+//! The XDF file of a recording.
+//!
+//! For now a recording has one stream and one batch, small enough that its file has no boundary:
+//! `recording_text` makes the whole text of its file, which is the least-width text of the
+//! chunks that `recording_model` lays out.
+#![tactic(auto)]
+
+mod documents;
+mod file_text;
+mod recording;
+
+pub use recording::{RecordingText, recording_text};
+pub use recording_model::StreamDoc;

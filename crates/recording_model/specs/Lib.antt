@@ -1,0 +1,4 @@
+pub mod Ledger
+pub mod Batch
+pub mod Layout
+pub mod Recording
