@@ -9,15 +9,13 @@ ghost use Rattle.xdf_model.specs.Sample.{Sample, IsSampleText, least_sample_text
 pub fn least_is_a_number()
     ensures text { (n : ℕ) → n < 2 ^ 64 → IsVarlen n (least_varlen n) }
     ensures shortest { (n : ℕ) (b : List ℕ) → IsVarlen n b → length (least_varlen n) ≤ length b }
-{
-}
+{}
 
 /// No text of a number begins another, and a text has one number.
 pub fn number_has_one_reading()
     ensures { (m n : ℕ) (a b x y : List ℕ) → IsVarlen m a → IsVarlen n b
         → a ++ x ≡ b ++ y → (m ≡ n) × (a ≡ b) }
-{
-}
+{}
 
 /// No text of a sample begins another of the same shape, and a text has one sample. A sample that
 /// has a text has the least one.
@@ -26,5 +24,4 @@ pub fn sample_has_one_reading()
         → IsSampleText shape t b → a ++ x ≡ b ++ y → (s ≡ t) × (a ≡ b) }
     ensures least { (shape : Shape) (s : Sample) (b : List ℕ) → IsSampleText shape s b
         → IsSampleText shape s (least_sample_text shape s) × (length (least_sample_text shape s) ≤ length b) }
-{
-}
+{}
