@@ -44,7 +44,7 @@ pub fn read_num(bytes: &[u8]) -> NumRead
     }
 }
 
-/// The least width that a number fits, in bytes: 1, 4 or 8. [`put_num`] appends one byte more.
+/// The least width that a number fits, in bytes: 1, 4 or 8. The width byte stands before them.
 pub fn num_size(n: u64) -> u8
     ensures { result ≡ least_width n }
 {
