@@ -1,1 +1,5 @@
+pub mod Errors
+pub mod Feeds
+pub mod FeedSizes
+pub mod Inputs
 pub mod Plans

@@ -1,3 +1,7 @@
+ghost use Rattle.std.specs.Prelude.{◌≡◌};
+ghost use Rattle.record_cli.specs.declared.fault.RecordFault.TheVariants.{Memory as memory};
+
+use rec_base::Memory;
 use thiserror::Error;
 
 /// Why nothing, or not all, was recorded: a variant for each status but 0.
@@ -21,4 +25,12 @@ pub(crate) enum RecordFault {
     /// An input is of a form that isn't built yet.
     #[error("of a form that isn't built yet")]
     OtherForm,
+}
+
+impl From<Memory> for RecordFault {
+    ghost from_gives = { λ _ e. e ≡ memory };
+
+    fn from(_e: Memory) -> RecordFault {
+        RecordFault::Memory
+    }
 }

@@ -1,8 +1,10 @@
 //! The lab recorder: `record PLAN OUT`.
 #![tactic(auto)]
 
+mod bytes;
 mod fault;
 mod feed;
+mod input;
 mod plan;
 mod words;
 

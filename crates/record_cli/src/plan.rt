@@ -1,10 +1,11 @@
 //! The plan of this stage.
 
-ghost use Rattle.std.specs.Prelude.{◌≡◌, ◌≢◌, ◌++◌, ◌⊎◌, ◌↔◌, ◌≤◌, ◌<◌, IfOk, IfSome, IfNone, MatchOption, IsErrOf, OnErr, ℕ, List, length, IsTrue};
+ghost use Rattle.std.specs.Prelude.{◌≡◌, ◌++◌, ◌⊎◌, ◌↔◌, ◌≤◌, ◌<◌, IfOk, IfSome, IfNone, IsErrOf, OnErr, ℕ, List, length, IsTrue};
 ghost use Rattle.std.specs.List.{prefix_len};
 ghost use Rattle.std.specs.Str.{IsUtf8};
 ghost use Rattle.record_cli.specs.Plan.{is_word_byte, HasNames, AreNames, IsFirstPlan, document_limit};
 
+use crate::bytes::behind;
 use crate::fault::RecordFault;
 use rec_base::Word;
 use std::alloc::Global;
@@ -14,16 +15,6 @@ use std::alloc::Global;
 pub(crate) struct FirstPlan {
     pub(crate) doc: Word,
     pub(crate) feed: Word,
-}
-
-// What stands behind a text at the front.
-fn behind<'a>(text: &'a [u8], front: &[u8]) -> Option<&'a [u8]>
-    ensures { MatchOption result ((rest : List ℕ) → text.now ≢ front.now ++ rest) (λ rest. text.now ≡ front.now ++ rest.now) }
-{
-    match text.strip_prefix(front) {
-        Some(rest) => Some(rest),
-        None => None,
-    }
 }
 
 fn is_word_byte(byte: u8) -> bool
