@@ -7,6 +7,7 @@ mod feed;
 mod input;
 mod output;
 mod plan;
+mod record;
 mod words;
 
 fn main() {}
