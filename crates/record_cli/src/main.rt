@@ -10,4 +10,7 @@ mod plan;
 mod record;
 mod words;
 
+#[cfg(test)]
+mod tests;
+
 fn main() {}

@@ -91,7 +91,7 @@ fn say_fault<D: Dock>(dock: &mut D, line: &str)
 ///
 /// The words are `record PLAN OUT`: the plan is a text of this project's own form, which names a
 /// header document and a captured feed, and the output is the XDF 1.0 file to write. At this
-/// stage the feed is one of two channels of `int16` in little-endian byte order, with at most
+/// stage the feed has one channel of `int16` in little-endian byte order, with at most
 /// 512 samples, and the whole recording is made before the output is created.
 ///
 /// The statuses are this project's own:

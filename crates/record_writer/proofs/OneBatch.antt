@@ -1,5 +1,5 @@
 -- The chunks of a recording of one stream with one batch.
-use Rattle.std.proofs.Common.{◌≡◌, ℕ, ◌+◌, ◌*◌, ◌^◌, ◌<◌, ◌≤◌, Bool, true, false, cond, eqb, ltb, eq-eqb, ne_eqb, List, [], ◌∷◌, ◌++◌, length, Some, Ok, refl, sym, ap, ◌∙◌, subst, append_assoc, inl, inr, arith}
+use Rattle.std.proofs.Common.{◌≡◌, ℕ, ◌+◌, ◌*◌, ◌^◌, ◌<◌, ◌≤◌, zero, suc, Bool, true, false, cond, eqb, ltb, eq-eqb, ne_eqb, List, [], ◌∷◌, ◌++◌, length, map, Some, Ok, refl, sym, ap, ◌∙◌, subst, append_assoc, inl, inr, arith}
 use Rattle.std.specs.Prelude.{IsSome, is_some, sum_by, filter, if◌then◌else◌}
 use Rattle.std.specs.List.{flat_map, filter_map, AllByRecursion}
 use Rattle.std.proofs.lemmas.List.{append-nil, length-append}
@@ -16,9 +16,9 @@ use Rattle.chunk_laws.proofs.Spelled.{chunk_spelled, samples_content, chunk_shor
 use Rattle.recording_model.specs.declared.row.Row.{Row}
 use Rattle.recording_model.specs.declared.stream.StreamDoc.{StreamDoc}
 use Rattle.recording_model.specs.Ledger.{row_in, stream_samples, all_rows, ledger_rows}
-use Rattle.recording_model.specs.Batch.{one_batch, Group, Divides, AreDivided, entries_from, entries_in, texts_of}
+use Rattle.recording_model.specs.Batch.{IsRising, AreInOrder, one_batch, Group, Divides, AreDivided, entries_from, entries_in, texts_of}
 use Rattle.recording_model.specs.Layout.{laid_chunks, boundary_gap}
-use Rattle.recording_model.specs.Recording.{IsRecording, headers, footers, file_document, ledger_document, footer_document, lost_in}
+use Rattle.recording_model.specs.Recording.{AreStreams, IsRecording, headers, footers, file_document, ledger_document, footer_document, lost_in}
 use Rattle.record_writer.specs.OneBatch.{IsShortStream, one_body, one_footers}
 use Rattle.record_writer.proofs.Spelled.{ledger_shape, ledger_joins, stream_joins}
 
@@ -101,10 +101,24 @@ divided_none stream =
     let divides : Divides (stream ∷ []) (record { place = 0; entries = [] }) [] = record { stream = stream; is_stream = refl; all = refl; longest = tt } in
     ([], [], divides, refl, refl)
 
+rising_from : (n : ℕ) (samples : List Sample) → IsRising (map (λ e. e.position) (entries_from n samples))
+rising_from n [] = tt
+rising_from n (s ∷ []) = tt
+rising_from n (s ∷ t ∷ more) = (omega arith, rising_from (n + 1) (t ∷ more))
+
+in_order_one : (samples : List Sample) → AreInOrder (one_batch samples)
+in_order_one samples zero =
+    let P : List ℕ → Type 0 = λ ns. IsRising ns in
+    subst P (sym (append-nil (map (λ e. e.position) (entries_from 0 samples)))) (rising_from 0 samples)
+in_order_one samples (suc place) = let other : eqb 0 (suc place) ≡ false = ne_eqb 0 (suc place) (λ e. omega (arith, e)) in rw other tt
+
+streams_one : (stream : StreamDoc) → IsShortStream stream → AreStreams (stream ∷ [])
+streams_one stream is = (record { low = is.low; high = is.high; shape = is.shape }, tt, tt)
+
 -- all samples of a short stream are one chunk
 pub one_recording : (stream : StreamDoc) (samples : List Sample) → IsShortStream stream → length (texts_of stream.shape samples) ≤ 32_768
     → IsRecording (stream ∷ []) (one_batch samples) ((headers (stream ∷ []) ++ one_body stream.id samples) ++ one_footers stream.id (length samples))
-one_recording stream [] is short = record { groups = []; divided = divided_none stream; body = []; laid = refl; whole = refl }
+one_recording stream [] is short = record { are = streams_one stream is; in_order = in_order_one []; groups = []; divided = divided_none stream; body = []; laid = refl; whole = refl }
 one_recording stream (s ∷ more) is short =
     let ctx = context_after_all [] (headers (stream ∷ [])) in
     let since = length (least_file_text (headers (stream ∷ []))) in
@@ -113,6 +127,8 @@ one_recording stream (s ∷ more) is short =
     let text = chunk_short ctx (Samples stream.id (s ∷ more)) in
     let all : since + length (least_chunk_text ctx (Samples stream.id (s ∷ more))) < boundary_gap = omega (arith, headers_short stream is, content, text, short) in
     record {
+      are = streams_one stream is;
+      in_order = in_order_one (s ∷ more);
       groups = group_of s more ∷ [];
       divided = divided_one stream s more short;
       body = Samples stream.id (s ∷ more) ∷ [];

@@ -1,5 +1,5 @@
 -- What a recording is made of, batch by batch, and how a batch is divided into groups. This project's own.
-use Rattle.std.specs.Prelude.{◌≡◌, ◌≢◌, ℕ, ◌+◌, ◌<◌, ◌≤◌, ◌⊎◌, ⊤, List, [], ◌∷◌, ◌++◌, length, Some, slice_get}
+use Rattle.std.specs.Prelude.{◌≡◌, ◌≢◌, ◌==◌, ℕ, ◌+◌, ◌<◌, ◌≤◌, ◌⊎◌, ⊤, List, [], ◌∷◌, ◌++◌, length, map, Some, slice_get, if◌then◌else◌}
 use Rattle.std.specs.List.{flat_map}
 use Rattle.xdf_model.specs.declared.types.Shape.{Shape}
 use Rattle.xdf_model.specs.Sample.{Sample, least_sample_text}
@@ -14,6 +14,21 @@ pub record Entry : Type 0 where
 pub record Batch : Type 0 where
   pub place : ℕ
   pub entries : List Entry
+
+-- the positions of a place in all batches, in order
+abbrev pub positions_at : ℕ → List Batch → List ℕ
+positions_at place [] = []
+positions_at place (b ∷ bs) = (if b.place == place then map (λ e. e.position) b.entries else []) ++ positions_at place bs
+
+-- each number is above the one before it
+abbrev pub IsRising : List ℕ → Type 0
+IsRising [] = ⊤
+IsRising (n ∷ []) = ⊤
+IsRising (n ∷ m ∷ more) = (n < m) × IsRising (m ∷ more)
+
+-- the entries of each place come in the order of their feed, none twice
+abbrev pub AreInOrder : List Batch → Type 0
+AreInOrder batches = (place : ℕ) → IsRising (positions_at place batches)
 
 -- samples at consecutive positions from n on
 abbrev pub entries_from : ℕ → List Sample → List Entry

@@ -1,5 +1,5 @@
 -- What a file says was lost, and what it holds of each stream. The ledger is this project's own.
-use Rattle.std.specs.Prelude.{ℕ, ◌+◌, ◌<◌, ◌≤◌, ◌^◌, ◌==◌, ◌&&◌, nat_lt, nat_le, Bool, List, [], ◌∷◌, ◌++◌, Option, Some, None, filter, if◌then◌else◌}
+use Rattle.std.specs.Prelude.{ℕ, ◌+◌, ◌^◌, ◌==◌, ◌&&◌, nat_lt, nat_le, Bool, List, [], ◌∷◌, ◌++◌, Option, Some, None, filter, if◌then◌else◌}
 use Rattle.std.specs.List.{filter_map}
 use Rattle.xdf_model.specs.declared.types.Stamp.{Stamp}
 use Rattle.xdf_model.specs.declared.types.Stamp.TheVariants as stamp
@@ -9,14 +9,6 @@ use Rattle.chunk_grammar.specs.declared.chunk.Chunk.TheVariants.{FileHeader, Str
 use Rattle.recording_model.specs.declared.row.Row.{Row}
 
 -- a row that may stand in a ledger
-pub record IsInRange (row : Row) : Type 0 where
-  pub stream_low : 1 ≤ row.stream
-  pub stream_high : row.stream ≤ 65_535
-  pub first_high : row.first < 2 ^ 62
-  pub count_low : 1 ≤ row.count
-  pub count_high : row.count ≤ 2 ^ 62
-
--- the same as a test
 abbrev pub is_in_range : Row → Bool
 is_in_range row =
     nat_le 1 row.stream && nat_le row.stream 65_535 && nat_lt row.first (2 ^ 62) && nat_le 1 row.count && nat_le row.count (2 ^ 62)

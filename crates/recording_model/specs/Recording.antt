@@ -1,13 +1,15 @@
 -- The file of a recording, from its first header to its last footer. The documents and their order are this project's own.
-use Rattle.std.specs.Prelude.{◌≡◌, ℕ, List, [], ◌∷◌, ◌++◌, length, map, sum_by, codes}
+use Rattle.std.specs.Prelude.{◌≡◌, ◌≢◌, ◌≤◌, ⊤, ℕ, List, [], ◌∷◌, ◌++◌, length, map, sum_by, codes, Ok}
+use Rattle.std.specs.List.{AllByRecursion}
 use Rattle.std.specs.Fmt.{decimal}
+use Rattle.xdf_model.specs.Shape.{shape_in}
 use Rattle.chunk_grammar.specs.declared.chunk.Chunk.{Chunk}
 use Rattle.chunk_grammar.specs.declared.chunk.Chunk.TheVariants.{FileHeader, StreamHeader, StreamFooter}
 use Rattle.chunk_grammar.specs.Chunk.{Context, least_file_text}
 use Rattle.chunk_grammar.specs.Standing.{context_after_all}
 use Rattle.recording_model.specs.declared.stream.StreamDoc.{StreamDoc}
 use Rattle.recording_model.specs.Ledger.{stream_samples, all_rows, ledger_rows}
-use Rattle.recording_model.specs.Batch.{Batch, Group, AreDivided}
+use Rattle.recording_model.specs.Batch.{Batch, Group, AreDivided, AreInOrder}
 use Rattle.recording_model.specs.Layout.{laid_chunks}
 
 abbrev pub file_document : List ℕ
@@ -34,8 +36,21 @@ footers streams body =
     StreamFooter 0 (footer_document (length (all_rows body)) 0)
     ∷ map (λ s. StreamFooter s.id (footer_document (length (stream_samples s.id body)) (lost_in s.id body))) streams
 
+-- the stream of a feed: an id that isn't the ledger's, and the shape that its header document tells
+pub record IsStream (stream : StreamDoc) : Type 0 where
+  pub low : 1 ≤ stream.id
+  pub high : stream.id ≤ 65_535
+  pub shape : shape_in stream.doc ≡ Ok stream.shape
+
+-- the streams of a recording: no two have the same id
+abbrev pub AreStreams : List StreamDoc → Type 0
+AreStreams [] = ⊤
+AreStreams (s ∷ more) = IsStream s × AllByRecursion (λ other. other.id ≢ s.id) more × AreStreams more
+
 -- cs is the recording of these batches
 pub record IsRecording (streams : List StreamDoc) (batches : List Batch) (cs : List Chunk) : Type 0 where
+  pub are : AreStreams streams
+  pub in_order : AreInOrder batches
   pub groups : List Group
   pub divided : AreDivided streams batches groups
   pub body : List Chunk

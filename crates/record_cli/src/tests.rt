@@ -1,0 +1,166 @@
+use crate::input::INT16_DOCUMENT;
+use crate::record::record_main;
+use rec_base::{Blob, MemDock, MemSource, Name, Piece, Word};
+use std::alloc::Global;
+use std::test::Fail;
+
+const PLAN: &[u8] = b"mode turns\nfeed 1 doc h file a\n";
+
+const RECORD: &[&str] = &["record", "p", "out"];
+
+// The reply, and both test samples.
+const FEED_FRONT: &[u8] = b"LSL/110 200 OK\r\nUID: u1\r\nByte-Order: 1234\r\nSuppress-Subnormals: 0\r\nData-Protocol-Version: 110\r\n\r\n\x02\0\0\0\0\0\0\0\0\0\0\x02\0\0\0\0\0\0\0\0\0\0";
+
+// The file of three samples up to its Samples chunk, that chunk, and the file's end.
+const HEADERS: &[u8] = b"XDF:\x01\x3A\x01\0<?xml version=\"1.0\"?><info><version>1.0</version></info>\x01\xB6\x02\0\0\0\0\0<?xml version=\"1.0\"?><info><name>overruns</name><type>ledger</type><channel_count>3</channel_count><nominal_srate>0</nominal_srate><channel_format>int64</channel_format></info>\x01\x59\x02\0\x01\0\0\0<info><channel_count>1</channel_count><channel_format>int16</channel_format></info>";
+const SAMPLES: &[u8] = b"\x01\x11\x03\0\x01\0\0\0\x01\x03\0\x01\0\0\x02\0\0\x03\0";
+const FOOTERS: &[u8] = b"\x01\x5C\x06\0\0\0\0\0<?xml version=\"1.0\"?><info><sample_count>0</sample_count><overruns>0</overruns></info>\x01\x5C\x06\0\x01\0\0\0<?xml version=\"1.0\"?><info><sample_count>3</sample_count><overruns>0</overruns></info>";
+
+// A feed of so many stampless samples, the numbers from 1 on.
+fn feed_of(alloc: Global, samples: u16) -> Result<Vec<u8>, Fail> {
+    let mut feed = Vec::new(alloc);
+    feed.extend_from_slice(FEED_FRONT)?;
+    for number in 1..=samples {
+        let [low, high] = number.to_le_bytes();
+        feed.extend_from_slice(&[1, low, high])?;
+    }
+    Ok(feed)
+}
+
+fn file(alloc: Global, path: &str, bytes: &[u8]) -> Result<(Name, MemSource), Fail> {
+    let name = Name::File(Word::from_bytes(alloc, path.as_bytes())?);
+    let piece = Piece::Give(Blob::from_bytes(alloc, bytes)?);
+    Ok((name, MemSource::new(vec![in alloc; piece]?)))
+}
+
+// The calls of a dock that fail, counted from 1 for each kind; 0 stands for none.
+#[derive(Clone, Copy)]
+struct Fails {
+    open: u64,
+    write: u64,
+    say: u64,
+}
+
+const NONE: Fails = Fails {
+    open: 0,
+    write: 0,
+    say: 0,
+};
+
+// Records on a dock with these inputs.
+fn record_on(
+    alloc: Global,
+    words: &[&str],
+    doc: &[u8],
+    feed: &[u8],
+    fails: Fails,
+) -> Result<(u8, MemDock), Fail> {
+    let files = vec![in alloc; file(alloc, "p", PLAN)?, file(alloc, "h", doc)?, file(alloc, "a", feed)?]?;
+    let mut dock = MemDock::new(
+        alloc,
+        files,
+        4096,
+        vec![in alloc; fails.open]?,
+        vec![in alloc; fails.write]?,
+        vec![in alloc; fails.say]?,
+    )?;
+    let mut command = Vec::new(alloc);
+    for word in words {
+        command.push(Word::from_bytes(alloc, word.as_bytes())?)?;
+    }
+    let status = record_main(alloc, &command, &mut dock);
+    Ok((status, dock))
+}
+
+#[test]
+fn three_samples_are_recorded(rt: HostRuntime) -> Result<(), Fail> {
+    let feed = feed_of(rt.alloc(), 3)?;
+    assert_eq!(rt; feed.len(), 128);
+    let (status, dock) = record_on(rt.alloc(), RECORD, INT16_DOCUMENT, &feed, NONE)?;
+    assert_eq!(rt; status, 0);
+    assert_eq!(rt; dock.target(), b"out".as_slice());
+    let printed = b"feed 1 received 3 kept 3 lost 0 end whole\nrecorded bytes 546 chunks 6\n";
+    assert_eq!(rt; dock.printed(), printed.as_slice());
+    let mut want = Vec::new(rt.alloc());
+    want.extend_from_slice(HEADERS)?;
+    assert_eq!(rt; want.len(), 339);
+    want.extend_from_slice(SAMPLES)?;
+    want.extend_from_slice(FOOTERS)?;
+    assert_eq!(rt; want.len(), 546);
+    assert_eq!(rt; dock.held(), want.as_slice());
+    Ok(())
+}
+
+#[test]
+fn the_most_samples_are_512(rt: HostRuntime) -> Result<(), Fail> {
+    for (samples, status, printed) in [
+        (
+            0,
+            0,
+            b"feed 1 received 0 kept 0 lost 0 end whole\nrecorded bytes 527 chunks 5\n".as_slice(),
+        ),
+        (
+            512,
+            0,
+            b"feed 1 received 512 kept 512 lost 0 end whole\nrecorded bytes 2081 chunks 6\n"
+                .as_slice(),
+        ),
+        (513, 10, b"fault 10\n".as_slice()),
+    ] {
+        let feed = feed_of(rt.alloc(), samples)?;
+        let (answer, dock) = record_on(rt.alloc(), RECORD, INT16_DOCUMENT, &feed, NONE)?;
+        assert_eq!(rt; answer, status, "{samples} samples");
+        assert_eq!(rt; dock.printed(), printed, "{samples} samples");
+    }
+    Ok(())
+}
+
+#[test]
+fn a_document_and_a_feed_of_another_form_are_refused(rt: HostRuntime) -> Result<(), Fail> {
+    let whole = feed_of(rt.alloc(), 3)?;
+    let longer = b"<info><channel_count>1</channel_count><channel_format>int16</channel_format></info>\n";
+    for (doc, cut, status) in [
+        (INT16_DOCUMENT, 119, 0),
+        (INT16_DOCUMENT, 120, 10),
+        (INT16_DOCUMENT, 118, 10),
+        (INT16_DOCUMENT, 0, 10),
+        (longer.as_slice(), 128, 10),
+    ] {
+        let feed = whole.get(..cut).unwrap_or(&[]);
+        let (answer, dock) = record_on(rt.alloc(), RECORD, doc, feed, NONE)?;
+        assert_eq!(rt; answer, status, "{cut} bytes");
+        if status == 10 {
+            assert_eq!(rt; dock.printed(), b"fault 10\n".as_slice());
+            assert!(rt; dock.target().is_empty());
+        } else {
+            assert_eq!(rt; dock.held().len(), 527);
+        }
+    }
+    Ok(())
+}
+
+#[test]
+fn each_fault_has_its_status_and_line(rt: HostRuntime) -> Result<(), Fail> {
+    let feed = feed_of(rt.alloc(), 3)?;
+    let first_open = Fails { open: 1, ..NONE };
+    let creation = Fails { open: 4, ..NONE };
+    let first_write = Fails { write: 1, ..NONE };
+    let first_say = Fails { say: 1, ..NONE };
+    for (words, fails, status, printed, created) in [
+        ([].as_slice(), NONE, 2, "fault 2 usage 1\n", false),
+        (["frob"].as_slice(), NONE, 2, "fault 2 usage 2\n", false),
+        (["record", "p"].as_slice(), NONE, 2, "fault 2 usage 3\n", false),
+        (["record", "p", "p"].as_slice(), NONE, 2, "fault 2 usage 5\n", false),
+        (["record", "x", "out"].as_slice(), NONE, 4, "fault 4\n", false),
+        (RECORD, first_open, 4, "fault 4\n", false),
+        (RECORD, creation, 4, "fault 4\n", false),
+        (RECORD, first_write, 5, "fault 5\n", true),
+        (RECORD, first_say, 8, "", true),
+    ] {
+        let (answer, dock) = record_on(rt.alloc(), words, INT16_DOCUMENT, &feed, fails)?;
+        assert_eq!(rt; answer, status);
+        assert_eq!(rt; dock.printed(), printed.as_bytes());
+        assert_eq!(rt; dock.target().is_empty(), !created);
+    }
+    Ok(())
+}
