@@ -2,12 +2,12 @@
 use Rattle.std.proofs.Common.{◌≡◌, ℕ, suc, ◌+◌, ◌≤◌, ltb, false, List, [], ◌∷◌, length, refl, ap, arith}
 use Rattle.std.proofs.lemmas.Bool.{le-ltb}
 use Rattle.std.proofs.lemmas.List.{length-append}
-use Rattle.xdf_model.specs.Reading.{number_at, ◌>>=◌}
+use Rattle.xdf_model.specs.Reading.{number_at}
 use Rattle.xdf_model_laws.proofs.Bytes.{IsBytes, IsBytes-rest, length-little_bytes}
 use Rattle.xdf_model_laws.proofs.Readers.{found, ok, reads_number}
 use Rattle.chunk_grammar.specs.declared.chunk.Chunk.{Chunk}
 use Rattle.chunk_grammar.specs.declared.chunk.Chunk.TheVariants.{ClockOffset}
-use Rattle.chunk_grammar.specs.Standing.{ended, sized, clock_offset_at}
+use Rattle.chunk_grammar.specs.Standing.{ended, clock_offset_at}
 
 number_rest : (size : ℕ) (b : List ℕ) (n : ℕ) (rest : List ℕ) → IsBytes b → number_at size b ≡ found n rest → IsBytes rest × (length b ≡ size + length rest)
 number_rest size b n rest h e =

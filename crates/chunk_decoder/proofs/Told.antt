@@ -1,5 +1,5 @@
 -- What a call tells of what stands there.
-use Rattle.std.proofs.Common.{◌≡◌, ℕ, zero, suc, ◌-◌, ◌+◌, ◌≤◌, Bool, true, false, cond, ltb, IsTrue, List, ◌∷◌, ◌++◌, length, take, drop, Ok, Err, sym, ap, ◌∙◌, subst, arith, inl, inr, ◌⊎◌, refl}
+use Rattle.std.proofs.Common.{◌≡◌, ℕ, zero, suc, ◌-◌, ◌+◌, ◌≤◌, Bool, true, false, cond, ltb, IsTrue, List, ◌++◌, length, take, drop, Ok, Err, sym, ap, ◌∙◌, subst, arith, inl, inr, ◌⊎◌, refl}
 use Rattle.std.proofs.lemmas.Bool.{ltb-false}
 use Rattle.std.proofs.lemmas.List.{length-append, length-take}
 use Rattle.byteorder.specs.Endian.{little_bytes, little_number}
@@ -13,7 +13,7 @@ use Rattle.xdf_model_laws.proofs.Bytes.{IsBytes, length-little_bytes}
 use Rattle.xdf_model_laws.proofs.Readers.{num_sound}
 use Rattle.chunk_grammar.specs.declared.chunk.Chunk.{Chunk}
 use Rattle.chunk_grammar.specs.Chunk.{Context, IsChunkText, length_limit, tag_of}
-use Rattle.chunk_grammar.specs.Standing.{Judged, Standing, whole, torn, bad, answer_of, content_at, chunk_at, standing_from, standing_at}
+use Rattle.chunk_grammar.specs.Standing.{Judged, whole, torn, bad, answer_of, content_at, standing_from, standing_at}
 use Rattle.chunk_laws.proofs.Places.{at_exact, at_complete}
 use Rattle.chunk_decoder.specs.declared.place.Step.{Step}
 use Rattle.chunk_decoder.specs.declared.place.Step.TheVariants.{Whole, Torn, Bad, Memory}
