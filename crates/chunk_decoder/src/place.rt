@@ -23,8 +23,9 @@ pub enum Step {
     Whole { chunk: Chunk, used: usize },
     /// The bytes end within the chunk, or there are none.
     Torn,
-    /// No chunk stands there, and no bytes behind these make one: the reason, and the place of the
-    /// field that has it. A fault of the length is told at 0.
+    /// No chunk stands there, and no bytes behind these make one: the reason, and the place at which
+    /// the field or the sample begins that has it. A fault of the chunk's length is told at 0, and a
+    /// clock offset or a boundary that is too short at the content's first byte.
     Bad { at: usize, why: Why },
     /// There was no memory for the chunk.
     Memory,
@@ -85,8 +86,10 @@ fn answer(alloc: Global, ctx: &Context, bytes: &[u8]) -> Step
 /// layout"). A chunk with a tag that the format leaves open is read with its bytes as they are.
 ///
 /// The context stays as it was: a stream header joins it by `Context::context_add`. Faults are
-/// judged from left to right, and the first one is told (this project's own). A longer input changes
-/// no answer but `Torn` and `Memory`.
+/// judged from left to right, those of a content once all of its bytes are there, and the first one
+/// is told (this project's own). So a longer input changes no answer but `Torn` and `Memory`.
+///
+/// `Memory` comes for want of memory alone, and says nothing of the bytes.
 pub fn read_chunk(alloc: Global, ctx: &Context, bytes: &[u8]) -> Step
     // Unless memory runs out, this is what stands at the front of the bytes.
     ensures exact { Answers result (standing_at ctx.now bytes.now) }
