@@ -1,17 +1,15 @@
 -- The chunks of the tests have texts.
-use Rattle.std.proofs.Common.{◌≡◌, ℕ, ◌<◌, ◌≤◌, List, [], ◌∷◌, length, Some, refl, arith}
+use Rattle.std.proofs.Common.{◌≡◌, ℕ, ◌<◌, List, [], ◌∷◌, length, Some, refl, arith}
 use Rattle.std.specs.Prelude.{codes}
 use Rattle.std.specs.List.{flat_map, AllByRecursion}
-use Rattle.std.proofs.lemmas.Bool.Decides.{nat_tests}
-use Rattle.xdf_model.specs.Varlen.{least_width, least_varlen}
+use Rattle.xdf_model.specs.Varlen.{least_varlen}
 use Rattle.xdf_model.specs.declared.types.Format.TheVariants.{Int16, Text}
 use Rattle.xdf_model.specs.declared.types.Shape.{Shape}
 use Rattle.xdf_model.specs.declared.types.Stamp.TheVariants.{None, Bits}
 use Rattle.xdf_model.specs.Sample.{Sample, number, text, FitsShape, least_sample_text}
 use Rattle.chunk_grammar.specs.declared.chunk.Chunk.TheVariants.{Samples}
-use Rattle.chunk_grammar.specs.Chunk.{Context, shape_of, IsChunkText}
-use Rattle.chunk_encoder.proofs.Steps.{length-samples}
-use Rattle.chunk_encoder.proofs.HasText.{samples_have_text}
+use Rattle.chunk_grammar.specs.Chunk.{Context, shape_of, IsChunkText, least_chunk_text}
+use Rattle.chunk_laws.proofs.Spelled.{chunk_spelled, samples_content, samples_short}
 
 abbrev pub one_second : ℕ
 one_second = 0x3FF0_0000_0000_0000
@@ -22,13 +20,12 @@ of_numbers = record { count = 2; format = Int16 }
 abbrev pub number_samples : List Sample
 number_samples = record { stamp = Bits one_second; values = number 1 ∷ number 0xFFFF ∷ [] } ∷ record { stamp = None; values = number 2 ∷ number 0x8000 ∷ [] } ∷ []
 
--- a stream of the tests whose samples take this many bytes
+-- samples of the tests' stream that take so many bytes
 have_text : (ctx : Context) (shape : Shape) (samples : List Sample) (n : ℕ) → shape_of ctx 1 ≡ Some shape → AllByRecursion (FitsShape shape) samples → length samples < 4 → length (flat_map (least_sample_text shape) samples) ≡ n → n < 1000
     → (b : List ℕ) × IsChunkText ctx (Samples 1 samples) b
 have_text ctx shape samples n here fits few size small =
-    let all = length-samples ctx (Samples 1 samples) 1 samples shape refl here in
-    let narrow : least_width (length samples) ≤ 8 = grind (arith, nat_tests) in
-    samples_have_text ctx 1 samples shape (omega arith) here fits (omega arith) (omega (arith, all, size, narrow))
+    let content = samples_content ctx 1 shape samples (omega arith) here fits (omega arith) (omega (arith, size, small)) in
+    (least_chunk_text ctx (Samples 1 samples), chunk_spelled ctx (Samples 1 samples) content (omega (arith, samples_short ctx 1 shape samples here, size, small)))
 
 pub numbers_have_text : (ctx : Context) → shape_of ctx 1 ≡ Some of_numbers → (b : List ℕ) × IsChunkText ctx (Samples 1 number_samples) b
 numbers_have_text ctx here =

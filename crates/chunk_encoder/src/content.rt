@@ -1,34 +1,18 @@
-ghost use Rattle.std.specs.Prelude.{◌≡◌, ◌≤◌, ◌<◌, ◌^◌, ◌++◌, ℕ, List, OnOk, OnErr};
+ghost use Rattle.std.specs.Prelude.{◌≡◌, ◌++◌, ℕ, List, OnOk, OnErr};
 ghost use Rattle.std.specs.List.{flat_map, AllByRecursion};
-ghost use Rattle.byteorder.specs.Endian.{little_bytes};
 ghost use Rattle.xdf_model.specs.Sample.{FitsShape, least_sample_text};
 ghost use Rattle.sample_values.specs.View.{KeepsFront};
 ghost use Rattle.chunk_grammar.specs.Chunk.{IsContentText, least_content_text};
 
-use byteorder::{ByteOrder, LittleEndian};
 use chunk_grammar::{Chunk, Context, SampleList};
 use rec_base::Memory;
 use sample_values::{Shape, put_view};
-use xdf_lengths::put_num;
+use xdf_lengths::{put_fixed, put_num};
 
 // The bytes by which a reader finds its place again (XDF 1.0, "Boundary chunk").
 const BOUNDARY: [u8; 16] = [
     0x43, 0xA5, 0x46, 0xDC, 0xCB, 0xF5, 0x41, 0x0F, 0xB3, 0x0E, 0xD5, 0x46, 0x73, 0x83, 0xCB, 0xE4,
 ];
-
-// Appends a number of 1 to 8 bytes, the lowest first.
-pub(crate) fn put_number(size: usize, n: u64, out: &mut Vec<u8>) -> Result<(), Memory>
-    requires low { 1 ≤ size }
-    requires high { size ≤ 8 }
-    requires fits { n < 256 ^ size }
-    ensures ok { OnOk result (out.new.items ≡ out.old.items ++ little_bytes size n) }
-    ensures kept { OnErr result (KeepsFront out.old.items out.new.items) }
-{
-    let mut text = [0u8; 8];
-    LittleEndian::write_uint(&mut text, n, size);
-    out.extend_from_slice(&text[..size])?;
-    Ok(())
-}
 
 fn put_samples(shape: &Shape, samples: &SampleList, out: &mut Vec<u8>) -> Result<(), Memory>
     requires { AllByRecursion (FitsShape shape.now) samples.now }
@@ -52,24 +36,24 @@ pub(crate) fn put_content(ctx: &Context, chunk: &Chunk, out: &mut Vec<u8>) -> Re
     match chunk {
         Chunk::FileHeader { doc } => out.extend_from_slice(doc.bytes())?,
         Chunk::StreamHeader { id, doc } => {
-            put_number(4, *id as u64, out)?;
+            put_fixed(4, *id as u64, out)?;
             out.extend_from_slice(doc.bytes())?;
         }
         Chunk::Samples { id, samples } => {
-            put_number(4, *id as u64, out)?;
+            put_fixed(4, *id as u64, out)?;
             put_num(samples.len() as u64, out)?;
             if let Some(shape) = ctx.shape_of(*id) {
                 put_samples(&shape, samples, out)?;
             }
         }
         Chunk::ClockOffset { id, time, offset } => {
-            put_number(4, *id as u64, out)?;
-            put_number(8, *time, out)?;
-            put_number(8, *offset, out)?;
+            put_fixed(4, *id as u64, out)?;
+            put_fixed(8, *time, out)?;
+            put_fixed(8, *offset, out)?;
         }
         Chunk::Boundary => out.extend_from_slice(&BOUNDARY)?,
         Chunk::StreamFooter { id, doc } => {
-            put_number(4, *id as u64, out)?;
+            put_fixed(4, *id as u64, out)?;
             out.extend_from_slice(doc.bytes())?;
         }
         Chunk::Other { tag: _, body } => out.extend_from_slice(body.bytes())?,

@@ -20,10 +20,10 @@ num_of_more true w b more h =
     elim (cases_lt (length b) w) [
       | inl few ↦ let t : ltb (length b) w ≡ true = lt-ltb _ _ few in absurd (h (rw t refl))
       | inr enough ↦
-        let t : ltb (length b) w ≡ false = le-ltb _ _ enough in
-        let u : ltb (length (b ++ more)) w ≡ false = le-ltb _ _ (omega (arith, length-append b more)) in
-        let n : little_number w (b ++ more) ≡ little_number w b = little_from-append w b more enough in
-        rw (t, u, n) refl
+          let t : ltb (length b) w ≡ false = le-ltb _ _ enough in
+          let u : ltb (length (b ++ more)) w ≡ false = le-ltb _ _ (omega (arith, length-append b more)) in
+          let n : little_number w (b ++ more) ≡ little_number w b = little_from-append w b more enough in
+          rw (t, u, n) refl
     ]
 
 num_more : (b more : List ℕ) → (varlen_at b ≡ Short → ⊥) → varlen_at (b ++ more) ≡ varlen_at b
@@ -37,9 +37,9 @@ num_of_within true w b n used e =
     elim (cases_lt (length b) w) [
       | inl few ↦ let t : ltb (length b) w ≡ true = lt-ltb _ _ few in absurd (let f : Short ≡ Read n used = rw t at e in cc)
       | inr enough ↦
-        let t : ltb (length b) w ≡ false = le-ltb _ _ enough in
-        let f : Read (little_number w b) (w + 1) ≡ Read n used = rw t at e in
-        let u : w + 1 ≡ used = cc in omega arith
+          let t : ltb (length b) w ≡ false = le-ltb _ _ enough in
+          let f : Read (little_number w b) (w + 1) ≡ Read n used = rw t at e in
+          let u : w + 1 ≡ used = cc in omega arith
     ]
 
 num_within : (b : List ℕ) (n used : ℕ) → varlen_at b ≡ Read n used → used ≤ length b
@@ -52,18 +52,20 @@ chunk_more ctx n place b more h =
     elim (cases_lt n 2) [
       | inl little ↦ let t : ltb n 2 ≡ true = lt-ltb _ _ little in rw t refl
       | inr low ↦ elim (cases_lt length_limit n) [
-      | inl much ↦ let t : ltb n 2 ≡ false = le-ltb _ _ low in let u : ltb length_limit n ≡ true = lt-ltb _ _ much in rw (t, u) refl
-      | inr high ↦ elim (cases_lt (length b) n) [
-      | inl few ↦
-        let t : ltb n 2 ≡ false = le-ltb _ _ low in let u : ltb length_limit n ≡ false = le-ltb _ _ high in let v : ltb (length b) n ≡ true = lt-ltb _ _ few in
-        absurd (h (rw (t, u, v) refl))
-      | inr enough ↦
-        let v : ltb (length b) n ≡ false = le-ltb _ _ enough in
-        let w : ltb (length (b ++ more)) n ≡ false = le-ltb _ _ (omega (arith, length-append b more)) in
-        let tag : little_number 2 (b ++ more) ≡ little_number 2 b = little_from-append 2 b more (omega arith) in
-        let inner : take (n - 2) (drop 2 (b ++ more)) ≡ take (n - 2) (drop 2 b) = ap (take (n - 2)) (drop-append-le 2 b more (omega arith)) ∙ take-append-le (n - 2) (drop 2 b) more (omega (arith, length-drop 2 b)) in
-        rw (v, w, tag, inner) refl
-    ] ] ]
+        | inl much ↦ let t : ltb n 2 ≡ false = le-ltb _ _ low in let u : ltb length_limit n ≡ true = lt-ltb _ _ much in rw (t, u) refl
+        | inr high ↦ elim (cases_lt (length b) n) [
+          | inl few ↦
+              let t : ltb n 2 ≡ false = le-ltb _ _ low in let u : ltb length_limit n ≡ false = le-ltb _ _ high in let v : ltb (length b) n ≡ true = lt-ltb _ _ few in
+              absurd (h (rw (t, u, v) refl))
+          | inr enough ↦
+              let v : ltb (length b) n ≡ false = le-ltb _ _ enough in
+              let w : ltb (length (b ++ more)) n ≡ false = le-ltb _ _ (omega (arith, length-append b more)) in
+              let tag : little_number 2 (b ++ more) ≡ little_number 2 b = little_from-append 2 b more (omega arith) in
+              let inner : take (n - 2) (drop 2 (b ++ more)) ≡ take (n - 2) (drop 2 b) = ap (take (n - 2)) (drop-append-le 2 b more (omega arith)) ∙ take-append-le (n - 2) (drop 2 b) more (omega (arith, length-drop 2 b)) in
+              rw (v, w, tag, inner) refl
+        ]
+      ]
+    ]
 
 from_more : (ctx : Context) (b more : List ℕ) (r : NumRead) → varlen_at b ≡ r → (standing_from ctx b r ≡ torn → ⊥) → standing_from ctx (b ++ more) r ≡ standing_from ctx b r
 from_more ctx b more (Read n used) e h =

@@ -1,5 +1,9 @@
 pub mod Errors
+pub mod Faults
 pub mod Feeds
 pub mod FeedSizes
+pub mod Fronts
 pub mod Inputs
 pub mod Plans
+pub mod Recordings
+pub mod Samples

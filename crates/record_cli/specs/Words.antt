@@ -1,5 +1,5 @@
 -- The words of the command line. This project's own.
-use Rattle.std.specs.Prelude.{ℕ, List, [], ◌∷◌, Result, Ok, Err, codes, if◌then◌else◌}
+use Rattle.std.specs.Prelude.{ℕ, Bool, ◌==◌, ◌||◌, List, [], ◌∷◌, Result, Ok, Err, codes, if◌then◌else◌}
 use Rattle.std.specs.Str.{bytes_eq}
 
 -- the plan's name and the output's, or the number of the first usage that the words break
@@ -13,3 +13,7 @@ record_names (plan ∷ out ∷ more ∷ words) = Err 3
 abbrev pub record_words : List (List ℕ) → Result (List ℕ × List ℕ) ℕ
 record_words [] = Err 1
 record_words (command ∷ words) = if bytes_eq command (codes "record") then record_names words else Err 2
+
+-- the numbers of the usages
+abbrev pub is_usage : ℕ → Bool
+is_usage n = n == 1 || n == 2 || n == 3 || n == 5

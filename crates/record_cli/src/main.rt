@@ -5,7 +5,9 @@ mod bytes;
 mod fault;
 mod feed;
 mod input;
+mod output;
 mod plan;
+mod record;
 mod words;
 
 fn main() {}

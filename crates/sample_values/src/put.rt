@@ -9,7 +9,7 @@ use crate::view::SampleView;
 use byteorder::{ByteOrder, LittleEndian};
 use rec_base::Memory;
 use std::alloc::AllocError;
-use xdf_lengths::put_num;
+use xdf_lengths::{put_fixed, put_num};
 use xdf_model::{Shape, Stamp};
 
 fn put_stamp(stamp: Stamp, out: &mut Vec<u8>) -> Result<(), AllocError>
@@ -34,11 +34,7 @@ fn put_value(size: u8, value: &Held, out: &mut Vec<u8>) -> Result<(), AllocError
     ensures kept { OnErr result (KeepsFront out.old.items out.new.items) }
 {
     match value {
-        Held::Number(n) => {
-            let mut text = [0u8; 8];
-            LittleEndian::write_uint(&mut text, *n, size as usize);
-            out.extend_from_slice(&text[..size as usize])?;
-        }
+        Held::Number(n) => put_fixed(size, *n, out)?,
         Held::Text(t) => {
             put_num(t.len() as u64, out)?;
             out.extend_from_slice(t)?;

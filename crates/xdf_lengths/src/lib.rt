@@ -1,12 +1,13 @@
 //! XDF's variable-length integers: a width byte of 1, 4 or 8, and then a number in so many bytes, the
 //! lowest first (XDF 1.0, "Variable-Length Integers").
 //!
-//! This crate reads one, sizes one and appends one. It promises that reading accepts every width and
-//! tells each fault exactly, and that what is appended has the least width. No byte of a number is
-//! copied more than once.
+//! This crate reads one, sizes one and appends one; it also appends a number in a fixed number of
+//! bytes. It promises that reading accepts every width and tells each fault exactly, and that what is
+//! appended has the least width. Each byte of a number is copied once.
 #![tactic(auto)]
 
-ghost use Rattle.std.specs.Prelude.{◌≡◌, ◌++◌, ◌<◌, ◌≤◌, ℕ, length, OnOk, OnErr};
+ghost use Rattle.std.specs.Prelude.{◌≡◌, ◌++◌, ◌<◌, ◌≤◌, ◌^◌, ℕ, length, OnOk, OnErr};
+ghost use Rattle.byteorder.specs.Endian.{little_bytes};
 ghost use Rattle.xdf_model.specs.Varlen.{varlen_at, least_varlen, least_width};
 
 use byteorder::{ByteOrder, LittleEndian};
@@ -43,7 +44,7 @@ pub fn read_num(bytes: &[u8]) -> NumRead
     }
 }
 
-/// The least width that a number fits, in bytes: 1, 4 or 8. [`put_num`] appends one byte more.
+/// The least width that a number fits, in bytes: 1, 4 or 8. The width byte stands before them.
 pub fn num_size(n: u64) -> u8
     ensures { result ≡ least_width n }
 {
@@ -71,6 +72,21 @@ pub fn put_num(n: u64, out: &mut Vec<u8>) -> Result<(), AllocError>
     out.extend_from_slice(&text[..width as usize + 1])
 }
 
+/// Appends a number in a fixed number of bytes, 1 to 8, the lowest byte first.
+///
+/// An `Err` comes for want of memory alone, and leaves what `out` holds as it was.
+pub fn put_fixed(size: u8, n: u64, out: &mut Vec<u8>) -> Result<(), AllocError>
+    requires low { 1 ≤ size }
+    requires high { size ≤ 8 }
+    requires fits { n < 256 ^ size }
+    ensures ok { OnOk result (out.new.items ≡ out.old.items ++ little_bytes size n) }
+    ensures memory { OnErr result (out.new.items ≡ out.old.items) }
+{
+    let mut text = [0u8; 8];
+    LittleEndian::write_uint(&mut text, n, size as usize);
+    out.extend_from_slice(&text[..size as usize])
+}
+
 #[cfg(test)]
 mod tests {
     use super::*;
@@ -94,7 +110,8 @@ mod tests {
         }
         let mut out = [7].to_vec(rt.alloc())?;
         put_num(58, &mut out)?;
-        assert_eq!(rt; out.as_slice(), [7, 1, 58].as_slice());
+        put_fixed(2, 0x1A2B, &mut out)?;
+        assert_eq!(rt; out.as_slice(), [7, 1, 58, 0x2B, 0x1A].as_slice());
         Ok(())
     }
 }

@@ -1,4 +1,4 @@
-use Rattle.std.proofs.Common.{◌≡◌, List, ℕ, ◌++◌, length, ap, sym, ◌∙◌, append_assoc}
+use Rattle.std.proofs.Common.{◌≡◌, List, ℕ, ◌++◌, ap, sym, ◌∙◌, append_assoc}
 use Rattle.std.proofs.lemmas.Result.{err_from_is_err_and}
 use Rattle.byteorder.specs.Endian.{little_bytes}
 use Rattle.xdf_model.specs.Varlen.{least_varlen}
@@ -16,9 +16,9 @@ returns-in_err-put_samples-in-Samples-clause-kept c =
     let id = little_bytes 4 c.in-Samples.id in
     let count = least_varlen c.len.result in
     let so_far : c.put_num.new.out.items ≡ c.args.out.now.items ++ (id ++ count) =
-    c.in_ok-put_num-in-Samples.ensures.ok ∙ ap (λ (t : List ℕ). t ++ count) c.in_ok-put_number-in-Samples.ensures.ok ∙ append_assoc c.args.out.now.items id count in
+    c.in_ok-put_num-in-Samples.ensures.ok ∙ ap (λ (t : List ℕ). t ++ count) c.in_ok-put_fixed-in-Samples.ensures.ok ∙ append_assoc c.args.out.now.items id count in
     rw p.1 (front_kept c.args.out.now.items (id ++ count) c.put_num.new.out.items c.put_samples.new.out.items so_far c.in_err-put_samples-in-Samples.ensures.kept)
 
-pub returns-in_ok-put_number-in-ClockOffset-3-clause-ok : goal.returns-in_ok-put_number-in-ClockOffset-3-clause-ok
-returns-in_ok-put_number-in-ClockOffset-3-clause-ok c =
-    rw (c.in-ClockOffset.is, c.in_ok-put_number-in-ClockOffset-3.ensures.ok, c.in_ok-put_number-in-ClockOffset-2.ensures.ok, c.in_ok-put_number-in-ClockOffset.ensures.ok) (simp append_assoc)
+pub returns-in_ok-put_fixed-in-ClockOffset-3-clause-ok : goal.returns-in_ok-put_fixed-in-ClockOffset-3-clause-ok
+returns-in_ok-put_fixed-in-ClockOffset-3-clause-ok c =
+    rw (c.in-ClockOffset.is, c.in_ok-put_fixed-in-ClockOffset-3.ensures.ok, c.in_ok-put_fixed-in-ClockOffset-2.ensures.ok, c.in_ok-put_fixed-in-ClockOffset.ensures.ok) (simp append_assoc)

@@ -1,4 +1,4 @@
-use Rattle.std.proofs.Common.{◌≡◌, length, ap, sym, ◌∙◌, arith}
+use Rattle.std.proofs.Common.{ap, sym, ◌∙◌, arith}
 use Rattle.xdf_model.specs.Varlen.{least_width}
 use Rattle.chunk_laws.proofs.LeastChunks.{content_limit}
 use Rattle.chunk_encoder.proofs.Steps.{fits_all, length-samples}

@@ -1,5 +1,4 @@
-use Rattle.std.proofs.Common.{◌≡◌, Some, None, sym, ◌∙◌, arith}
-use Rattle.std.specs.List.{slice_get}
+use Rattle.std.proofs.Common.{sym, ◌∙◌, arith}
 use Rattle.xdf_model.specs.Sample.{least_sample_text}
 use Rattle.chunk_encoder.proofs.Steps.{length_more, length_within, no_more}
 use Rattle.chunk_encoder.proofs.size.samples_size.Goals as goal

@@ -1,4 +1,4 @@
-use Rattle.std.proofs.Common.{arith, rules, ◌∙◌, sym}
+use Rattle.std.proofs.Common.{rules}
 use Rattle.rec_base.proofs.Taken.{Appends-more}
 use Rattle.chunk_encoder.proofs.write_all.write_all_of.Goals as goal
 

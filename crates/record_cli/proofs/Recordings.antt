@@ -1,0 +1,56 @@
+-- A recording by its parts, and what a dock that was kept so far still has.
+use Rattle.std.proofs.Common.{◌≡◌, ℕ, List, ◌∷◌, [], ◌++◌, Option, Ok, subst, sym, ap, ◌∙◌}
+use Rattle.std.specs.Prelude.{Result, Err, OnErr, IsErrOf}
+use Rattle.std.specs.Io.KnownBytes.{Appends}
+use Rattle.rec_base.specs.Causes.{Rose}
+use Rattle.rec_base.specs.Contents.{Contents}
+use Rattle.rec_base.specs.Known.{AppendsFront, Becomes, BecomesFront}
+use Rattle.xdf_model.specs.Sample.{Sample}
+use Rattle.chunk_grammar.specs.declared.chunk.Chunk.{Chunk}
+use Rattle.chunk_grammar.specs.Chunk.{IsFileText, least_file_text}
+use Rattle.recording_model.specs.Batch.{one_batch}
+use Rattle.recording_model.specs.Recording.{IsRecording}
+use Rattle.record_cli.specs.Words.{record_words}
+use Rattle.record_cli.specs.Inputs.{IsFirstForm}
+use Rattle.record_cli.specs.Recorded.{int16_stream, IsRecordingOf}
+
+pub recording_of : (contents : Option Contents) (words : List (List ℕ)) (plan out : List ℕ) (samples : List Sample) (cs : List Chunk)
+    → record_words words ≡ Ok (plan, out) → IsFirstForm contents plan out samples → IsRecording (int16_stream ∷ []) (one_batch samples) cs → IsFileText cs (least_file_text cs)
+    → IsRecordingOf contents words out samples cs
+recording_of contents words plan out samples cs command form recording text = record { plan = plan; command = command; form = form; recording = recording; text = text }
+
+pub becomes_from : (a b c : Option (List ℕ)) (xs ys : List ℕ) → b ≡ a → xs ≡ ys → Becomes b c xs → Becomes a c ys
+becomes_from a b c xs ys same is becomes =
+    let P : Option (List ℕ) → Type 0 = λ o. Becomes o c ys in
+    let Q : List ℕ → Type 0 = λ t. Becomes b c t in
+    subst P same (subst Q is becomes)
+
+pub becomes_front_from : (a b c : Option (List ℕ)) (xs ys : List ℕ) → b ≡ a → xs ≡ ys → BecomesFront b c xs → BecomesFront a c ys
+becomes_front_from a b c xs ys same is becomes =
+    let P : Option (List ℕ) → Type 0 = λ o. BecomesFront o c ys in
+    let Q : List ℕ → Type 0 = λ t. BecomesFront b c t in
+    subst P same (subst Q is becomes)
+
+pub appends_from : (a b c : Option (List ℕ)) (xs ys : List ℕ) → b ≡ a → xs ≡ ys → Appends b c xs → Appends a c ys
+appends_from a b c xs ys same is appends =
+    let P : Option (List ℕ) → Type 0 = λ o. Appends o c ys in
+    let Q : List ℕ → Type 0 = λ t. Appends b c t in
+    subst P same (subst Q is appends)
+
+pub appends_front_from : (a b c : Option (List ℕ)) (xs ys : List ℕ) → b ≡ a → xs ≡ ys → AppendsFront b c xs → AppendsFront a c ys
+appends_front_from a b c xs ys same is appends =
+    let P : Option (List ℕ) → Type 0 = λ o. AppendsFront o c ys in
+    let Q : List ℕ → Type 0 = λ t. AppendsFront b c t in
+    subst P same (subst Q is appends)
+
+pub kept_new : (a b c : Option (List ℕ)) (xs : List ℕ) → c ≡ b → Becomes a b xs → Becomes a c xs
+kept_new a b c xs same becomes = let P : Option (List ℕ) → Type 0 = λ o. Becomes a o xs in subst P (sym same) becomes
+
+pub both : {a b c d : List ℕ} → a ≡ b → c ≡ d → a ++ c ≡ b ++ d
+both {a} {b} {c} {d} p q = ap (λ (t : List ℕ). t ++ c) p ∙ ap (λ (t : List ℕ). b ++ t) q
+
+pub rose_from : (a b c : ℕ) → b ≡ a → Rose b c → Rose a c
+rose_from a b c same rose = let P : ℕ → Type 0 = λ n. Rose n c in subst P same rose
+
+pub of_err : {T E P : Type 0} (r : Result T E) (e : E) → OnErr r P → IsErrOf r e → P
+of_err {T} {E} {P} r e told is = let Q : Result T E → Type 0 = λ x. OnErr x P in subst Q is told
