@@ -1,3 +1,4 @@
+pub mod Apart
 pub mod Errors
 pub mod Faults
 pub mod Feeds

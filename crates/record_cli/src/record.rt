@@ -1,10 +1,10 @@
 //! The top call of `record`.
 
-ghost use Rattle.std.specs.Prelude.{◌≡◌, ◌≢◌, ◌≤◌, ◌⊎◌, ◌↔◌, List, ℕ, length, IsTrue, IsErr, OnOk, OnErr, IsErrOf, Ok, Err, ◌++◌, codes};
+ghost use Rattle.std.specs.Prelude.{◌≡◌, ◌≢◌, ◌≤◌, ◌⊎◌, ◌↔◌, List, ℕ, length, IsTrue, IsErr, OnOk, OnErr, IsErrOf, Ok, Err, Some, ◌++◌, codes};
 ghost use Rattle.std.specs.Fmt.{decimal};
 ghost use Rattle.std.specs.Io.KnownBytes.{Appends};
 ghost use Rattle.rec_base.specs.Causes.{Rose};
-ghost use Rattle.rec_base.specs.Contents.{IsOpened};
+ghost use Rattle.rec_base.specs.Contents.{Contents, IsOpened};
 ghost use Rattle.rec_base.specs.Known.{AppendsFront, Becomes, BecomesFront};
 ghost use Rattle.rec_base.specs.Moved.{HasFailed};
 ghost use Rattle.rec_base.specs.declared.name.Name.{Name as NameValue};
@@ -12,7 +12,7 @@ ghost use Rattle.xdf_model.specs.Sample.{Sample as SampleValue};
 ghost use Rattle.chunk_grammar.specs.Chunk.{least_file_text};
 ghost use Rattle.chunk_grammar.specs.declared.chunk.Chunk.{Chunk as ChunkValue};
 ghost use Rattle.record_cli.specs.Words.{record_words, is_usage};
-ghost use Rattle.record_cli.specs.Inputs.{IsOtherForm, IsInputName};
+ghost use Rattle.record_cli.specs.Inputs.{IsFirstForm, IsOtherForm, IsInputName};
 ghost use Rattle.record_cli.specs.Recorded.{IsRecordingOf, IsCreated, SaysFault, record_lines, fault_text, has_fault_line, is_status, is_without_file};
 
 use crate::fault::RecordFault;
@@ -138,6 +138,10 @@ pub fn record_main<D: Dock>(alloc: Global, words: &[Word], dock: &mut D) -> u8
 
     ensures other_form { result ≡ 10 → (plan : List ℕ) × (out : List ℕ)
         × (record_words words.now ≡ Ok (plan, out)) × IsOtherForm (D.contents dock.old) plan out }
+
+    // where contents are told, no samples make the inputs of the form that is recorded
+    ensures other_form_alone { result ≡ 10 → (texts : Contents) → (D.contents dock.old ≡ Some texts) → (plan : List ℕ) → (out : List ℕ) → (samples : List SampleValue)
+        → (record_words words.now ≡ Ok (plan, out)) → IsFirstForm (D.contents dock.old) plan out samples → ⊥ }
 
     ensures no_file { IsTrue (is_without_file result) → (D.target dock.new ≡ D.target dock.old) × (D.held dock.new ≡ D.held dock.old) }
 
