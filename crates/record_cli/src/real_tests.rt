@@ -1,6 +1,7 @@
 use crate::real_dock::RealDock;
 use rec_base::{Blob, Dock, Failed, Name, Sink, Source, Word};
 use std::alloc::Global;
+use std::fs;
 use std::test::Fail;
 
 fn word(alloc: Global, text: &str) -> Result<Word, Fail> {
@@ -50,5 +51,21 @@ fn files_are_written(rt: HostRuntime) -> Result<(), Fail> {
         assert_eq!(rt; dock.create(&word(alloc, path)?), created);
         assert_eq!(rt; dock.write(b"ab"), wrote);
     }
+    Ok(())
+}
+
+#[test]
+fn a_file_holds_what_was_written_last(rt: HostRuntime) -> Result<(), Fail> {
+    let alloc: Global = rt.alloc();
+    let mut dock = RealDock::new(rt.clone()?);
+    for text in ["abcd", "ef"] {
+        dock.create(&word(alloc, "real_tests_file")?)?;
+        assert_eq!(rt; dock.write(text.as_bytes()), Ok(text.len()));
+    }
+    let mut source = dock.open(&file(alloc, "real_tests_file")?)?;
+    let mut buf = [b'.'; 4];
+    assert_eq!(rt; source.read(&mut buf), Ok(2));
+    assert_eq!(rt; buf.as_slice(), b"ef..".as_slice());
+    fs::remove_file(&rt, "real_tests_file")?;
     Ok(())
 }
