@@ -1,4 +1,4 @@
--- Chunks and files of chunks (XDF, "Chunk layout").
+-- Chunks and files of chunks (XDF, "Chunk layout"); the context and the limit are this project's own.
 use Rattle.std.specs.Prelude.{◌≡◌, ℕ, ◌+◌, ◌<◌, ◌≤◌, ◌^◌, ◌==◌, ◌||◌, Bool, List, [], ◌∷◌, ◌++◌, length, Option, Some, None, Result, Ok, Err, if◌then◌else◌, IsTrue, nat_lt, codes}
 use Rattle.std.specs.List.{flat_map}
 use Rattle.byteorder.specs.Endian.{little_bytes}
@@ -14,6 +14,7 @@ use Rattle.chunk_grammar.specs.declared.chunk.Chunk.TheVariants.{FileHeader, Str
 abbrev pub Context : Type 0
 Context = List (ℕ × Shape)
 
+-- the shape of the first stream with an id
 abbrev pub shape_of : Context → ℕ → Option Shape
 shape_of [] id = None
 shape_of (s ∷ more) id = if s.0 == id then Some s.1 else shape_of more id
@@ -27,13 +28,15 @@ abbrev pub context_after : Context → Chunk → Context
 context_after ctx (StreamHeader id doc) = with_shape ctx id (shape_in doc)
 context_after ctx _ = ctx
 
--- the most that a Length may be
+-- the most that a Length may be, in bytes of tag and content
 abbrev pub length_limit : ℕ
 length_limit = 67_108_864
 
+-- the content of a boundary (XDF, "Boundary chunk")
 abbrev pub boundary_bytes : List ℕ
 boundary_bytes = 0x43 ∷ 0xA5 ∷ 0x46 ∷ 0xDC ∷ 0xCB ∷ 0xF5 ∷ 0x41 ∷ 0x0F ∷ 0xB3 ∷ 0x0E ∷ 0xD5 ∷ 0x46 ∷ 0x73 ∷ 0x83 ∷ 0xCB ∷ 0xE4 ∷ []
 
+-- the tag of a chunk's kind
 abbrev pub tag_of : Chunk → ℕ
 tag_of (FileHeader doc) = 1
 tag_of (StreamHeader id doc) = 2
@@ -43,6 +46,7 @@ tag_of Boundary = 5
 tag_of (StreamFooter id doc) = 6
 tag_of (Other tag body) = tag
 
+-- a tag that is none of the six
 abbrev pub is_other : ℕ → Bool
 is_other tag = tag == 0 || nat_lt 6 tag
 
@@ -77,6 +81,7 @@ AreChunkTexts ctx [] b = b ≡ []
 AreChunkTexts ctx (c ∷ more) b =
     (x : List ℕ) × (y : List ℕ) × IsChunkText ctx c x × AreChunkTexts (context_after ctx c) more y × (b ≡ x ++ y)
 
+-- the first four bytes of a file (XDF, "File structure")
 abbrev pub magic : List ℕ
 magic = codes "XDF:"
 
@@ -84,7 +89,7 @@ magic = codes "XDF:"
 abbrev pub IsFileText : List Chunk → List ℕ → Type 0
 IsFileText cs b = (y : List ℕ) × AreChunkTexts [] cs y × (b ≡ magic ++ y)
 
--- the same with the least widths
+-- the same with the least widths, which are this project's own
 
 abbrev pub texts_in : Option Shape → List Sample → List ℕ
 texts_in None samples = []

@@ -1,4 +1,5 @@
--- What stands at a place of a file, told from left to right.
+-- What stands at a place of a file, told from left to right. The reasons, their places and their order are this
+-- project's own.
 use Rattle.std.specs.Prelude.{◌≡◌, ℕ, ◌+◌, ◌-◌, ◌==◌, List, [], ◌∷◌, ◌++◌, length, take, drop, Option, Some, None, Result, Ok, Err, if◌then◌else◌, nat_lt}
 use Rattle.byteorder.specs.Endian.{little_number}
 use Rattle.xdf_model.specs.declared.types.Shape.{Shape}
@@ -19,14 +20,17 @@ use Rattle.chunk_grammar.specs.Chunk.{Context, shape_of, length_limit, boundary_
 abbrev pub Judged : Type 0
 Judged = Result Chunk Fault
 
+-- the shape of a stream whose header came before
 abbrev pub known : ℕ → Option Shape → Result Shape Fault
 known left None = Err (wrong left why.UnknownStream)
 known left (Some shape) = Ok shape
 
+-- no header of the stream came before
 abbrev pub new_stream : ℕ → Option Shape → Result ℕ Fault
 new_stream left None = Ok 0
 new_stream left (Some shape) = Err (wrong left why.RepeatedStream)
 
+-- the document has a shape
 abbrev pub has_shape : ℕ → Result Shape NoShape → Result Shape Fault
 has_shape left (Ok shape) = Ok shape
 has_shape left (Err reason) = Err (wrong left why.NoShape)

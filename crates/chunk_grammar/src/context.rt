@@ -8,20 +8,24 @@ use std::alloc::Global;
 use std::marker::Model;
 use thiserror::Error;
 
-/// Why a stream joins no context.
+/// Why a stream doesn't join a context. The first two are this project's own, and the first of them
+/// that holds comes.
 #[derive(Clone, Copy, Debug, PartialEq, Eq, Error)]
 pub enum CtxFault {
-    /// A stream with this id is there.
+    /// A header with this id came before.
     #[error("stream {0} is there")]
     Repeated(u32),
-    /// The document has no shape.
+    /// The stream's header document has no shape.
     #[error("the document has no shape")]
     NoShape,
+    /// Want of memory, and nothing else.
     #[error("out of memory")]
     Memory,
 }
 
-/// The streams whose headers came before, each with its shape, in the order of the headers.
+/// The streams whose headers came before, each with its shape, in the order of the headers: what a
+/// chunk behind them is judged by. That a stream needs a header before it, and has no second one, is
+/// this project's own, over XDF 1.0, "StreamHeader chunk".
 #[derive(Debug, Drop)]
 pub struct Context {
     streams: Vec<(u32, Shape)>,
@@ -36,6 +40,7 @@ impl Model for Context {
     ghost view = { λ c. c.streams.items };
 }
 
+// The shape of the first stream with this id.
 fn shape_among(streams: &[(u32, Shape)], id: u32) -> Option<Shape>
     ensures { result ≡ shape_of streams.now id }
 {
@@ -48,7 +53,8 @@ fn shape_among(streams: &[(u32, Shape)], id: u32) -> Option<Shape>
 }
 
 impl Context {
-    /// The context of a file's first chunk, which has no streams.
+    /// The context of a file's first chunk, in which no stream is known. It takes no memory before
+    /// the first stream.
     pub fn new(alloc: Global) -> Context
         ensures { result ≡ [] }
     {
@@ -57,15 +63,19 @@ impl Context {
         }
     }
 
-    /// The shape of a stream, where its header came before.
+    /// The shape of the stream with this id, where its header came before.
     pub fn shape_of(&self, id: u32) -> Option<Shape>
         ensures { result ≡ shape_of self.now id }
     {
         shape_among(&self.streams, id)
     }
 
-    /// Appends a stream with the shape that its document tells. An `Err` changes nothing: `Repeated`
-    /// comes exactly where the id is there, else `NoShape` exactly where the document has no shape.
+    /// Appends a stream with the shape that its header document tells, as a StreamHeader does for the
+    /// chunks behind it. The document isn't kept.
+    ///
+    /// An `Err` changes nothing. `Repeated` comes exactly where the id is there, whatever the document
+    /// holds; else `NoShape` exactly where [`find_shape`] finds no shape in the document; else
+    /// `Memory` for want of memory alone.
     pub fn context_add(&mut self, id: u32, doc: &[u8]) -> Result<(), CtxFault>
         ensures ok { OnOk result ((shape_of self.old id ≡ None) × (shape : Shape) × (shape_in doc.now ≡ Ok shape)
             × (self.new ≡ self.old ++ (id, shape) ∷ [])) }

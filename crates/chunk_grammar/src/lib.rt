@@ -1,9 +1,14 @@
-//! Chunks, and what a file of chunks is.
+//! Chunks, the streams that are known at one, and what a file of chunks is.
 //!
 //! The definitions stand in `specs/`: the chunks of a context and their texts (`Chunk`), and what
 //! stands at a place of a file (`Standing`); `chunk_laws` ties the two. In contracts a `Chunk` is
 //! the enum itself, with lists of bytes and of samples in it, and a `Context` is the list of the
 //! streams whose headers came before.
+//!
+//! The code holds chunks, lists of samples and contexts. It promises that a stream joins a context
+//! only where its header may stand there, that else the answer is the first reason why not, and that
+//! want of memory leaves a context or a list as it was. A sample is moved into a list and lent out of
+//! it, and none of its bytes is copied.
 #![tactic(auto)]
 
 mod chunk;
@@ -13,3 +18,6 @@ mod list;
 pub use chunk::{Chunk, tag_of_chunk};
 pub use context::{Context, CtxFault};
 pub use list::SampleList;
+
+#[cfg(test)]
+mod tests;

@@ -5,7 +5,8 @@ use sample_values::{Sample, SampleView};
 use std::alloc::Global;
 use std::marker::Model;
 
-/// The samples of a chunk, in order.
+/// The samples of a chunk, in order (XDF 1.0, "Samples chunk"). Whether they have the shape of their
+/// stream isn't known here.
 #[derive(Debug, Drop)]
 pub struct SampleList {
     items: Vec<Sample>,
@@ -21,7 +22,7 @@ impl Model for SampleList {
 }
 
 impl SampleList {
-    /// No samples.
+    /// No samples. It takes no memory before the first one.
     pub fn new(alloc: Global) -> SampleList
         ensures { result ≡ [] }
     {
@@ -30,7 +31,8 @@ impl SampleList {
         }
     }
 
-    /// Appends a sample. Want of memory changes nothing.
+    /// Appends a sample, which is moved. `Memory` comes for want of memory alone, and leaves the list
+    /// as it was; the sample is then gone.
     pub fn push(&mut self, item: Sample) -> Result<(), Memory>
         ensures ok { OnOk result (self.new ≡ self.old ++ item ∷ []) }
         ensures memory { OnErr result (self.new ≡ self.old) }
@@ -46,7 +48,8 @@ impl SampleList {
         self.items.len()
     }
 
-    /// The sample at a place, counted from 0, where there is one.
+    /// The sample at a place, counted from 0, where there is one. It is borrowed, and nothing is
+    /// copied.
     pub fn get(&self, i: usize) -> Option<SampleView<'_>>
         ensures { result ≡ slice_get self.now i }
     {

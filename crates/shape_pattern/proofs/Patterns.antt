@@ -8,12 +8,12 @@ use Rattle.std.proofs.lemmas.Int.Digits.{digits_value-lt, digits_value_push}
 use Rattle.std.proofs.lemmas.List.{take_more, length-take-le, length-drop, drop-drop, take_rest}
 use Rattle.xdf_model.specs.Shape.{behind_first}
 
-yes : (p xs : List ℕ) → 0 < length xs → starts_with nat_eq xs p ≡ true → behind_first p xs ≡ Some (drop (length p) xs)
-yes p [] lt e = absurd (omega arith)
-yes p (x ∷ b) lt e = rw e refl
+starts_here : (p xs : List ℕ) → 0 < length xs → starts_with nat_eq xs p ≡ true → behind_first p xs ≡ Some (drop (length p) xs)
+starts_here p [] lt e = absurd (omega arith)
+starts_here p (x ∷ b) lt e = rw e refl
 
-no : (p xs : List ℕ) (x : ℕ) (b : List ℕ) → xs ≡ x ∷ b → starts_with nat_eq xs p ≡ false → behind_first p xs ≡ behind_first p b
-no p xs x b parts e =
+starts_later : (p xs : List ℕ) (x : ℕ) (b : List ℕ) → xs ≡ x ∷ b → starts_with nat_eq xs p ≡ false → behind_first p xs ≡ behind_first p b
+starts_later p xs x b parts e =
     let f : starts_with nat_eq (x ∷ b) p ≡ false = rw parts at e in
     rw (parts, f) refl
 
@@ -21,10 +21,10 @@ pub stands_at : (p doc : List ℕ) (i : ℕ) → i < length doc → starts_with 
 stands_at p doc i lt e so_far =
     let more : 0 < length (drop i doc) = omega (arith, length-drop i doc) in
     let moved : drop (length p) (drop i doc) ≡ drop (i + length p) doc = drop-drop (length p) i doc in
-    ap (λ (t : List ℕ). Some t) (take_rest doc (i + length p) ∙ sym moved) ∙ sym (yes p (drop i doc) more e) ∙ sym so_far
+    ap (λ (t : List ℕ). Some t) (take_rest doc (i + length p) ∙ sym moved) ∙ sym (starts_here p (drop i doc) more e) ∙ sym so_far
 
 pub not_at : (p doc : List ℕ) (i : ℕ) → i < length doc → starts_with nat_eq (drop i doc) p ≡ false → behind_first p doc ≡ behind_first p (drop i doc) → behind_first p doc ≡ behind_first p (drop (i + 1) doc)
-not_at p doc i lt e so_far = rw add-one (so_far ∙ no p (drop i doc) (get_or doc i 0) (drop (suc i) doc) (drop-cons doc i 0 lt) e)
+not_at p doc i lt e so_far = rw add-one (so_far ∙ starts_later p (drop i doc) (get_or doc i 0) (drop (suc i) doc) (drop-cons doc i 0 lt) e)
 
 pub digits_push : (ds : List ℕ) (c : ℕ) → AllDigits 10 ds → digit_value c < 10 → AllDigits 10 (ds ++ c ∷ [])
 digits_push [] c all d = (d, tt)

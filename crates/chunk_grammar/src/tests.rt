@@ -1,0 +1,79 @@
+use super::*;
+use rec_base::Blob;
+use sample_values::{Format, Sample, Shape, Stamp};
+use std::test::Fail;
+
+#[test]
+fn a_stream_joins_once_and_with_a_shape(rt: HostRuntime) -> Result<(), Fail> {
+    let int16 =
+        "<info><channel_count>1</channel_count><channel_format>int16</channel_format></info>";
+    let string = "<channel_count>2</channel_count><channel_format>string</channel_format>";
+    let mut ctx = Context::new(rt.alloc());
+    for (id, doc, want) in [
+        (7, "<info></info>", Err(CtxFault::NoShape)),
+        (7, int16, Ok(())),
+        (7, string, Err(CtxFault::Repeated(7))),
+        (7, "<info></info>", Err(CtxFault::Repeated(7))),
+        (0, string, Ok(())),
+    ] {
+        assert_eq!(rt;
+            ctx.context_add(id, doc.as_bytes()),
+            want,
+            "{id} with {doc}"
+        );
+    }
+    let shape = |count, format| Some(Shape { count, format });
+    for (id, want) in [
+        (7, shape(1, Format::Int16)),
+        (0, shape(2, Format::Text)),
+        (1, None),
+    ] {
+        assert_eq!(rt; ctx.shape_of(id), want, "of {id}");
+    }
+    let said = CtxFault::Repeated(7).to_string(rt.alloc())?;
+    assert_eq!(rt; said.as_str(), "stream 7 is there");
+    Ok(())
+}
+
+#[test]
+fn samples_stand_in_their_order(rt: HostRuntime) -> Result<(), Fail> {
+    let mut samples = SampleList::new(rt.alloc());
+    samples.push(Sample::new(rt.alloc(), Stamp::Bits(5)))?;
+    samples.push(Sample::new(rt.alloc(), Stamp::None))?;
+    assert_eq!(rt; samples.len(), 2);
+    for (place, want) in [(0, Some(Stamp::Bits(5))), (1, Some(Stamp::None)), (2, None)] {
+        let stamp = samples.get(place).map(|view| view.stamp());
+        assert_eq!(rt; stamp, want, "at {place}");
+    }
+    let tag = tag_of_chunk(&Chunk::Samples { id: 7, samples });
+    assert_eq!(rt; tag, 3);
+    Ok(())
+}
+
+#[test]
+fn a_kind_has_its_tag(rt: HostRuntime) {
+    let none = || Blob::from_vec(Vec::new(rt.alloc()));
+    for (chunk, tag) in [
+        (Chunk::FileHeader { doc: none() }, 1),
+        (Chunk::StreamHeader { id: 7, doc: none() }, 2),
+        (
+            Chunk::ClockOffset {
+                id: 7,
+                time: 0,
+                offset: 0,
+            },
+            4,
+        ),
+        (Chunk::Boundary, 5),
+        (Chunk::StreamFooter { id: 7, doc: none() }, 6),
+        (
+            Chunk::Other {
+                tag: 9,
+                body: none(),
+            },
+            9,
+        ),
+    ] {
+        assert_eq!(rt; tag_of_chunk(&chunk), tag);
+    }
+}
