@@ -1,0 +1,2 @@
+//! Says what a file holds, chunk by chunk.
+#![tactic(auto)]
