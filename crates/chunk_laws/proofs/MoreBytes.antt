@@ -1,5 +1,5 @@
 -- More bytes behind an answer other than torn do not change it.
-use Rattle.std.proofs.Common.{◌≡◌, ℕ, zero, suc, ◌+◌, ◌-◌, ◌<◌, ◌≤◌, Bool, true, false, cond, ltb, List, [], ◌∷◌, ◌++◌, length, take, drop, refl, sym, ap, ◌∙◌, subst, arith, inl, inr, add-one}
+use Rattle.std.proofs.Common.{◌≡◌, ℕ, ◌+◌, ◌-◌, ◌≤◌, Bool, true, false, cond, ltb, List, [], ◌∷◌, ◌++◌, length, take, drop, refl, ap, ◌∙◌, arith, inl, inr}
 use Rattle.std.proofs.lemmas.Bool.{cases_lt, le-ltb, lt-ltb}
 use Rattle.std.proofs.lemmas.List.{length-append, length-drop, take-append-le, drop-append-le}
 use Rattle.byteorder.specs.Endian.{little_number}
@@ -8,7 +8,7 @@ use Rattle.xdf_model.specs.declared.types.NumRead.{NumRead}
 use Rattle.xdf_model.specs.declared.types.NumRead.TheVariants.{Read, Short, BadWidth}
 use Rattle.xdf_model.specs.Varlen.{is_width, varlen_at}
 use Rattle.chunk_grammar.specs.Chunk.{Context, length_limit}
-use Rattle.chunk_grammar.specs.Standing.{Standing, torn, answer_of, content_at, chunk_at, standing_from, standing_at}
+use Rattle.chunk_grammar.specs.Standing.{torn, chunk_at, standing_from, standing_at}
 
 -- the front of some bytes as a number, where the width byte is good or not
 abbrev num_of : Bool → ℕ → List ℕ → NumRead

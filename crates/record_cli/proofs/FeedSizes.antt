@@ -1,7 +1,6 @@
 -- A captured feed of this stage is short.
-use Rattle.std.proofs.Common.{◌≡◌, ℕ, zero, suc, ◌+◌, ◌*◌, ◌<◌, ◌≤◌, List, [], ◌∷◌, ◌++◌, length, refl, ap, arith}
+use Rattle.std.proofs.Common.{◌≡◌, ℕ, ◌*◌, ◌≤◌, List, [], ◌∷◌, ◌++◌, length, refl, ap, arith}
 use Rattle.std.proofs.lemmas.List.{length-append}
-use Rattle.byteorder.specs.Endian.{little_bytes}
 use Rattle.xdf_model.specs.declared.types.Stamp.{Stamp}
 use Rattle.xdf_model.specs.declared.types.Stamp.TheVariants.{None, Bits}
 use Rattle.xdf_model.specs.Sample.{Value, number, text, Sample, Joined}

@@ -1,9 +1,8 @@
 -- The samples of a captured feed of this stage fit their shape, and are short.
-use Rattle.std.proofs.Common.{◌≡◌, ℕ, ◌+◌, ◌*◌, ◌<◌, ◌≤◌, List, [], ◌∷◌, ◌++◌, length, Ok, refl, ap, arith}
+use Rattle.std.proofs.Common.{◌≡◌, ℕ, ◌*◌, ◌≤◌, List, [], ◌∷◌, length, Ok, refl, ap, arith}
 use Rattle.std.specs.List.{flat_map, AllByRecursion}
 use Rattle.std.proofs.lemmas.List.{length-append}
 use Rattle.std.proofs.lemmas.List.Concat.{flat_map-cons}
-use Rattle.byteorder.specs.Endian.{little_bytes}
 use Rattle.xdf_model.specs.declared.types.Stamp.{Stamp}
 use Rattle.xdf_model.specs.declared.types.Stamp.TheVariants.{None, Bits}
 use Rattle.xdf_model.specs.Shape.{shape_in}

@@ -1,5 +1,5 @@
 -- The captured feed that this stage records: one int16 channel in little-endian order (LSL data protocol 1.10).
-use Rattle.std.specs.Prelude.{◌≡◌, ℕ, ◌≤◌, List, [], ◌∷◌, ◌++◌, length, codes}
+use Rattle.std.specs.Prelude.{◌≡◌, ℕ, ◌≤◌, List, ◌++◌, length, codes}
 use Rattle.xdf_model.specs.declared.types.Shape.{Shape}
 use Rattle.xdf_model.specs.declared.types.Format.TheVariants.{Int16}
 use Rattle.xdf_model.specs.Sample.{Sample, Joined}

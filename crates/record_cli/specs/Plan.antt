@@ -23,7 +23,7 @@ pub record HasNames (text doc feed : List ℕ) : Type 0 where
   pub feed_bytes : AllByRecursion (λ b. is_word_byte b ≡ true) feed
   pub whole : text ≡ plan_front ++ (doc ++ (plan_middle ++ (feed ++ 10 ∷ [])))
 
--- both are text, and no two of the four names are one
+-- both are text; they differ from each other, and from the names of the plan and of the output
 pub record AreNames (plan out doc feed : List ℕ) : Type 0 where
   pub doc_some : 0 < length doc
   pub doc_text : IsUtf8 doc

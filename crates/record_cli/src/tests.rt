@@ -9,12 +9,17 @@ const PLAN: &[u8] = b"mode turns\nfeed 1 doc h file a\n";
 const RECORD: &[&str] = &["record", "p", "out"];
 
 // The reply, and both test samples.
-const FEED_FRONT: &[u8] = b"LSL/110 200 OK\r\nUID: u1\r\nByte-Order: 1234\r\nSuppress-Subnormals: 0\r\nData-Protocol-Version: 110\r\n\r\n\x02\0\0\0\0\0\0\0\0\0\0\x02\0\0\0\0\0\0\0\0\0\0";
+const FEED_FRONT: &[u8] =
+    b"LSL/110 200 OK\r\nUID: u1\r\nByte-Order: 1234\r\nSuppress-Subnormals: 0\r\nData-Protocol-Version: 110\r\n\r\n\x02\0\0\0\0\0\0\0\0\0\0\x02\0\0\0\0\0\0\0\0\0\0";
 
 // The file of three samples up to its Samples chunk, that chunk, and the file's end.
-const HEADERS: &[u8] = b"XDF:\x01\x3A\x01\0<?xml version=\"1.0\"?><info><version>1.0</version></info>\x01\xB6\x02\0\0\0\0\0<?xml version=\"1.0\"?><info><name>overruns</name><type>ledger</type><channel_count>3</channel_count><nominal_srate>0</nominal_srate><channel_format>int64</channel_format></info>\x01\x59\x02\0\x01\0\0\0<info><channel_count>1</channel_count><channel_format>int16</channel_format></info>";
+const HEADERS: &[u8] =
+    b"XDF:\x01\x3A\x01\0<?xml version=\"1.0\"?><info><version>1.0</version></info>\x01\xB6\x02\0\0\0\0\0<?xml version=\"1.0\"?><info><name>overruns</name><type>ledger</type><channel_count>3</channel_count><nominal_srate>0</nominal_srate><channel_format>int64</channel_format></info>\x01\x59\x02\0\x01\0\0\0<info><channel_count>1</channel_count><channel_format>int16</channel_format></info>";
+
 const SAMPLES: &[u8] = b"\x01\x11\x03\0\x01\0\0\0\x01\x03\0\x01\0\0\x02\0\0\x03\0";
-const FOOTERS: &[u8] = b"\x01\x5C\x06\0\0\0\0\0<?xml version=\"1.0\"?><info><sample_count>0</sample_count><overruns>0</overruns></info>\x01\x5C\x06\0\x01\0\0\0<?xml version=\"1.0\"?><info><sample_count>3</sample_count><overruns>0</overruns></info>";
+
+const FOOTERS: &[u8] =
+    b"\x01\x5C\x06\0\0\0\0\0<?xml version=\"1.0\"?><info><sample_count>0</sample_count><overruns>0</overruns></info>\x01\x5C\x06\0\x01\0\0\0<?xml version=\"1.0\"?><info><sample_count>3</sample_count><overruns>0</overruns></info>";
 
 // A feed of so many stampless samples, the numbers from 1 on.
 fn feed_of(alloc: Global, samples: u16) -> Result<Vec<u8>, Fail> {
@@ -55,7 +60,11 @@ fn record_on(
     feed: &[u8],
     fails: Fails,
 ) -> Result<(u8, MemDock), Fail> {
-    let files = vec![in alloc; file(alloc, "p", PLAN)?, file(alloc, "h", doc)?, file(alloc, "a", feed)?]?;
+    let files = vec![in alloc;
+        file(alloc, "p", PLAN)?,
+        file(alloc, "h", doc)?,
+        file(alloc, "a", feed)?,
+    ]?;
     let mut dock = MemDock::new(
         alloc,
         files,
@@ -102,8 +111,7 @@ fn the_most_samples_are_512(rt: HostRuntime) -> Result<(), Fail> {
         (
             512,
             0,
-            b"feed 1 received 512 kept 512 lost 0 end whole\nrecorded bytes 2081 chunks 6\n"
-                .as_slice(),
+            b"feed 1 received 512 kept 512 lost 0 end whole\nrecorded bytes 2081 chunks 6\n".as_slice(),
         ),
         (513, 10, b"fault 10\n".as_slice()),
     ] {
@@ -118,7 +126,8 @@ fn the_most_samples_are_512(rt: HostRuntime) -> Result<(), Fail> {
 #[test]
 fn a_document_and_a_feed_of_another_form_are_refused(rt: HostRuntime) -> Result<(), Fail> {
     let whole = feed_of(rt.alloc(), 3)?;
-    let longer = b"<info><channel_count>1</channel_count><channel_format>int16</channel_format></info>\n";
+    let longer =
+        b"<info><channel_count>1</channel_count><channel_format>int16</channel_format></info>\n";
     for (doc, cut, status) in [
         (INT16_DOCUMENT, 119, 0),
         (INT16_DOCUMENT, 120, 10),
@@ -149,9 +158,27 @@ fn each_fault_has_its_status_and_line(rt: HostRuntime) -> Result<(), Fail> {
     for (words, fails, status, printed, created) in [
         ([].as_slice(), NONE, 2, "fault 2 usage 1\n", false),
         (["frob"].as_slice(), NONE, 2, "fault 2 usage 2\n", false),
-        (["record", "p"].as_slice(), NONE, 2, "fault 2 usage 3\n", false),
-        (["record", "p", "p"].as_slice(), NONE, 2, "fault 2 usage 5\n", false),
-        (["record", "x", "out"].as_slice(), NONE, 4, "fault 4\n", false),
+        (
+            ["record", "p"].as_slice(),
+            NONE,
+            2,
+            "fault 2 usage 3\n",
+            false,
+        ),
+        (
+            ["record", "p", "p"].as_slice(),
+            NONE,
+            2,
+            "fault 2 usage 5\n",
+            false,
+        ),
+        (
+            ["record", "x", "out"].as_slice(),
+            NONE,
+            4,
+            "fault 4\n",
+            false,
+        ),
         (RECORD, first_open, 4, "fault 4\n", false),
         (RECORD, creation, 4, "fault 4\n", false),
         (RECORD, first_write, 5, "fault 5\n", true),

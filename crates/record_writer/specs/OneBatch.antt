@@ -1,5 +1,5 @@
 -- A recording of one stream with one batch.
-use Rattle.std.specs.Prelude.{◌≡◌, ℕ, ◌≤◌, List, [], ◌∷◌, ◌++◌, length, Ok}
+use Rattle.std.specs.Prelude.{◌≡◌, ℕ, ◌≤◌, List, [], ◌∷◌, length, Ok}
 use Rattle.xdf_model.specs.Sample.{Sample}
 use Rattle.xdf_model.specs.Shape.{shape_in}
 use Rattle.chunk_grammar.specs.declared.chunk.Chunk.{Chunk}

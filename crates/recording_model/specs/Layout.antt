@@ -4,7 +4,6 @@ use Rattle.xdf_model.specs.Sample.{Sample}
 use Rattle.chunk_grammar.specs.declared.chunk.Chunk.{Chunk}
 use Rattle.chunk_grammar.specs.declared.chunk.Chunk.TheVariants.{Samples, Boundary}
 use Rattle.chunk_grammar.specs.Chunk.{Context, least_chunk_text}
-use Rattle.recording_model.specs.declared.row.Row.{Row}
 use Rattle.recording_model.specs.declared.stream.StreamDoc.{StreamDoc}
 use Rattle.recording_model.specs.Ledger.{row_sample}
 use Rattle.recording_model.specs.Batch.{Group, samples_in, end_of}

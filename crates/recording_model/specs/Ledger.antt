@@ -1,9 +1,9 @@
 -- What a file says was lost, and what it holds of each stream. The ledger is this project's own.
-use Rattle.std.specs.Prelude.{ℕ, ◌+◌, ◌^◌, ◌==◌, ◌&&◌, nat_lt, nat_le, Bool, List, [], ◌∷◌, ◌++◌, Option, Some, None, filter, if◌then◌else◌}
+use Rattle.std.specs.Prelude.{ℕ, ◌^◌, ◌==◌, ◌&&◌, nat_lt, nat_le, Bool, List, [], ◌∷◌, ◌++◌, Option, Some, None, filter, if◌then◌else◌}
 use Rattle.std.specs.List.{filter_map}
 use Rattle.xdf_model.specs.declared.types.Stamp.{Stamp}
 use Rattle.xdf_model.specs.declared.types.Stamp.TheVariants as stamp
-use Rattle.xdf_model.specs.Sample.{Value, number, text, Sample}
+use Rattle.xdf_model.specs.Sample.{Value, number, Sample}
 use Rattle.chunk_grammar.specs.declared.chunk.Chunk.{Chunk}
 use Rattle.chunk_grammar.specs.declared.chunk.Chunk.TheVariants.{FileHeader, StreamHeader, Samples, ClockOffset, Boundary, StreamFooter, Other}
 use Rattle.recording_model.specs.declared.row.Row.{Row}

@@ -5,7 +5,7 @@ use Rattle.std.specs.Fmt.{decimal}
 use Rattle.xdf_model.specs.Shape.{shape_in}
 use Rattle.chunk_grammar.specs.declared.chunk.Chunk.{Chunk}
 use Rattle.chunk_grammar.specs.declared.chunk.Chunk.TheVariants.{FileHeader, StreamHeader, StreamFooter}
-use Rattle.chunk_grammar.specs.Chunk.{Context, least_file_text}
+use Rattle.chunk_grammar.specs.Chunk.{least_file_text}
 use Rattle.chunk_grammar.specs.Standing.{context_after_all}
 use Rattle.recording_model.specs.declared.stream.StreamDoc.{StreamDoc}
 use Rattle.recording_model.specs.Ledger.{stream_samples, all_rows, ledger_rows}

@@ -1,8 +1,7 @@
-use Rattle.std.proofs.Common.{refl, ap, Err, arith, rules, sym, ◌∙◌, ◌<◌, ◌≡◌, length, [], ◌∷◌, ◌++◌, List, subst}
+use Rattle.std.proofs.Common.{refl, arith, sym, ◌∙◌, length, [], ◌∷◌}
 use Rattle.std.proofs.lemmas.List.{length-append}
 use Rattle.record_cli.proofs.Errors.{handed}
-use Rattle.xdf_model.specs.Sample.{Sample}
-use Rattle.record_cli.proofs.Feeds.{Completes, AllGoOn, goes_on_first, completes_more, goes_on_more, all_taken, none_taken, too_many, not_zero, is_zero}
+use Rattle.record_cli.proofs.Feeds.{goes_on_first, completes_more, goes_on_more, all_taken, none_taken, too_many, not_zero, is_zero}
 use Rattle.record_cli.proofs.feed.take_samples.Goals as goal
 
 pub loop-init : goal.loop-init

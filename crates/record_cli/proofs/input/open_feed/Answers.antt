@@ -1,5 +1,4 @@
-use Rattle.std.proofs.Common.{List, ℕ, ◌≤◌, sym, subst, arith}
-use Rattle.xdf_model.specs.Sample.{Sample}
+use Rattle.std.proofs.Common.{List, ℕ, sym, subst, arith}
 use Rattle.record_cli.specs.Feed.{IsFirstFeed}
 use Rattle.record_cli.proofs.Errors.{handed}
 use Rattle.record_cli.proofs.FeedSizes.{feed_short}

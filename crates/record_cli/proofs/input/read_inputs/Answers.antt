@@ -1,5 +1,4 @@
-use Rattle.std.proofs.Common.{List, ℕ, inl, inr, refl}
-use Rattle.std.proofs.lemmas.Result.{IfOk-weaker}
+use Rattle.std.proofs.Common.{inl, inr, refl}
 use Rattle.rec_base.specs.declared.name.Name.TheVariants.{File}
 use Rattle.record_cli.proofs.Errors.{handed}
 use Rattle.record_cli.proofs.Inputs.{rose_later, doc_input, doc_opened, feed_input, feed_opened}

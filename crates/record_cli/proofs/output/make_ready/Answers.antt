@@ -1,4 +1,4 @@
-use Rattle.std.proofs.Common.{List, ℕ, [], ◌∷◌, length, subst, ap, ◌∙◌, sym}
+use Rattle.std.proofs.Common.{List, ℕ, [], ◌∷◌, length, subst, ap, ◌∙◌}
 use Rattle.chunk_grammar.specs.Chunk.{IsFileText, least_file_text}
 use Rattle.recording_model.specs.declared.stream.StreamDoc.{StreamDoc}
 use Rattle.recording_model.specs.Batch.{one_batch}

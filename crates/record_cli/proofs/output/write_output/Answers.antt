@@ -1,4 +1,4 @@
-use Rattle.std.proofs.Common.{rules, take, [], List, ℕ}
+use Rattle.std.proofs.Common.{rules, take, []}
 use Rattle.rec_base.proofs.Taken.{Becomes-appends}
 use Rattle.record_cli.proofs.output.write_output.Goals as goal
 

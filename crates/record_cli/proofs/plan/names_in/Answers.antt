@@ -1,6 +1,6 @@
 use Rattle.std.proofs.Common.{◌≡◌, ◌++◌, [], ◌∷◌, List, ℕ, take, drop, sym, ap, ◌∙◌, subst, rules}
 use Rattle.std.specs.List.{prefix_len}
-use Rattle.record_cli.specs.Plan.{is_word_byte, plan_front, plan_middle, HasNames}
+use Rattle.record_cli.specs.Plan.{is_word_byte, plan_middle, HasNames}
 use Rattle.record_cli.proofs.Plans.{behind_doc, behind_feed, names_made}
 use Rattle.record_cli.proofs.plan.names_in.Goals as goal
 

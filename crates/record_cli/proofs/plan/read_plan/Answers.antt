@@ -1,4 +1,4 @@
-use Rattle.std.proofs.Common.{List, ℕ, ap, ◌∙◌, sym, subst}
+use Rattle.std.proofs.Common.{List, ℕ, sym, subst}
 use Rattle.record_cli.specs.Plan.{AreNames}
 use Rattle.record_cli.proofs.Plans.{refused}
 use Rattle.record_cli.proofs.plan.read_plan.Goals as goal

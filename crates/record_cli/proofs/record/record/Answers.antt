@@ -1,9 +1,6 @@
-use Rattle.std.proofs.Common.{◌≡◌, ℕ, List, ◌++◌, refl, ◌∙◌, ap}
+use Rattle.std.proofs.Common.{refl, ◌∙◌, ap}
 use Rattle.std.proofs.lemmas.Result.{on_ok_weaker}
-use Rattle.rec_base.specs.Causes.{Rose}
 use Rattle.rec_base.specs.Known.{printed_line}
-use Rattle.chunk_grammar.specs.Chunk.{least_file_text}
-use Rattle.record_cli.specs.Recorded.{feed_line, recorded_line}
 use Rattle.record_cli.proofs.Errors.{handed}
 use Rattle.record_cli.proofs.Samples.{samples_fit}
 use Rattle.record_cli.proofs.Recordings.{recording_of, becomes_from, becomes_front_from, appends_from, appends_front_from, kept_new, both, rose_from, of_err}

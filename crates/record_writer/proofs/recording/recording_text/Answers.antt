@@ -1,4 +1,4 @@
-use Rattle.std.proofs.Common.{◌≡◌, ◌++◌, ◌∷◌, [], ℕ, List, length, sym, subst, ◌∙◌, arith}
+use Rattle.std.proofs.Common.{◌++◌, ◌∷◌, [], ℕ, length, subst, ◌∙◌, arith}
 use Rattle.chunk_grammar.specs.Chunk.{least_chunk_texts}
 use Rattle.recording_model.specs.Recording.{headers}
 use Rattle.record_writer.specs.FileOf.{IsFileOf}
