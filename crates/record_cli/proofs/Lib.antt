@@ -8,3 +8,6 @@ pub mod Inputs
 pub mod Plans
 pub mod Recordings
 pub mod Samples
+pub mod ShowFaults
+pub mod Shown
+pub mod Stops

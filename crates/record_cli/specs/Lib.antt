@@ -3,3 +3,4 @@ pub mod Plan
 pub mod Feed
 pub mod Inputs
 pub mod Recorded
+pub mod Show

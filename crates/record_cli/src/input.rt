@@ -27,8 +27,8 @@ const FEED_LIMIT: u64 = 5_751;
 pub(crate) const INT16_DOCUMENT: &[u8] =
     b"<info><channel_count>1</channel_count><channel_format>int16</channel_format></info>";
 
-// Opens a file and reads it to its end.
-fn read_input<D: Dock>(
+/// Opens a file and reads it to its end; `OtherForm` where it has more bytes than the limit.
+pub(crate) fn read_input<D: Dock>(
     alloc: Global,
     dock: &mut D,
     name: &Word,

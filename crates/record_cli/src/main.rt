@@ -1,12 +1,14 @@
-//! The lab recorder: `record PLAN OUT`.
+//! The lab recorder: `record PLAN OUT` and `show FILE`.
 #![tactic(auto)]
 
 ghost use Rattle.std.specs.Prelude.{◌≡◌, ◌≢◌};
 ghost use Rattle.std.specs.IoError.{error_kind};
+ghost use Rattle.record_cli.specs.Words.{starts_record};
 ghost use Rattle.std.specs.declared.io.ErrorKind.TheVariants.{InvalidData};
 
 mod bytes;
 mod fault;
+mod file;
 mod feed;
 mod input;
 mod output;
@@ -16,10 +18,13 @@ mod real_source;
 #[cfg(test)]
 mod real_tests;
 mod record;
+mod show;
+mod show_fault;
 #[cfg(test)]
 mod tests;
 mod words;
 
+use file::file_main;
 use real_dock::RealDock;
 use rec_base::Word;
 use record::record_main;
@@ -52,12 +57,26 @@ fn unread_status(fault: &io::Error) -> u8
     }
 }
 
+// Whether the first word is `record`, whose call may run as long as its feeds do.
+fn is_record(words: &[Word]) -> bool
+    ensures { result ≡ starts_record words.now }
+{
+    match words {
+        [command, ..] => command.bytes() == b"record".as_slice(),
+        [] => false,
+    }
+}
+
 fn main(rt: HostRuntime) -> ExitCode {
     match command_words(&rt) {
         Ok(words) => {
             let alloc: Global = rt.alloc();
             let mut dock = RealDock::new(rt);
-            ExitCode::from(record_main(alloc, &words, &mut dock))
+            ExitCode::from(if is_record(&words) {
+                record_main(alloc, &words, &mut dock)
+            } else {
+                file_main(alloc, &words, &mut dock)
+            })
         }
         Err(fault) => ExitCode::from(unread_status(&fault)),
     }

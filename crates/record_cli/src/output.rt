@@ -1,6 +1,7 @@
 //! What a recording writes and says.
 
-ghost use Rattle.std.specs.Prelude.{◌≡◌, ◌≤◌, ◌⊎◌, ◌++◌, ◌∷◌, [], List, ℕ, length, string_bytes, IfOk, OnOk, OnErr, IsErrOf};
+ghost use Rattle.std.specs.Prelude.{◌≡◌, ◌≤◌, ◌⊎◌, ◌++◌, ◌∷◌, [], List, ℕ, length, string_bytes, IfOk, OnOk, OnErr, IsErrOf, IsTrue, codes};
+ghost use Rattle.std.specs.Fmt.{decimal};
 ghost use Rattle.std.specs.List.{AllByRecursion};
 ghost use Rattle.std.specs.Io.KnownBytes.{Appends};
 ghost use Rattle.rec_base.specs.Causes.{Rose};
@@ -11,7 +12,8 @@ ghost use Rattle.chunk_grammar.specs.declared.chunk.Chunk.{Chunk as ChunkValue};
 ghost use Rattle.recording_model.specs.Batch.{one_batch};
 ghost use Rattle.recording_model.specs.Recording.{IsRecording};
 ghost use Rattle.record_cli.specs.Feed.{int16_shape, most_samples};
-ghost use Rattle.record_cli.specs.Recorded.{int16_stream, feed_line, recorded_line, IsCreated};
+ghost use Rattle.record_cli.specs.Recorded.{int16_stream, feed_line, recorded_line, IsCreated, SaysFault};
+ghost use Rattle.record_cli.specs.Words.{is_usage};
 
 use crate::fault::RecordFault;
 use crate::feed::INT16_SHAPE;
@@ -121,4 +123,29 @@ pub(crate) fn say_lines<D: Dock>(dock: &mut D, first: &str, second: &str) -> Res
         Ok(()) => Ok(()),
         Err(Failed) => Err(RecordFault::Say),
     }
+}
+
+/// The line of a usage fault.
+pub(crate) fn usage_line(why: u8) -> &'static str
+    requires known { IsTrue (is_usage why) }
+    ensures { result.now ≡ codes "fault 2 usage " ++ decimal why }
+{
+    match why {
+        1 => "fault 2 usage 1",
+        2 => "fault 2 usage 2",
+        3 => "fault 2 usage 3",
+        _ => "fault 2 usage 5",
+    }
+}
+
+/// Says the line of a fault. Whether it is said changes no status.
+pub(crate) fn say_fault<D: Dock>(dock: &mut D, line: &str)
+    ensures line { SaysFault (D.printed dock.old) (D.printed dock.new) (D.print_faults dock.old) (D.print_faults dock.new) line.now }
+    ensures later { D.print_faults dock.old ≤ D.print_faults dock.new }
+    ensures target { D.target dock.new ≡ D.target dock.old }
+    ensures held { D.held dock.new ≡ D.held dock.old }
+    ensures open_faults { D.open_faults dock.new ≡ D.open_faults dock.old }
+    ensures write_faults { D.write_faults dock.new ≡ D.write_faults dock.old }
+{
+    let _ = say_line(dock, line);
 }

@@ -1,7 +1,6 @@
 //! The top call of `record`.
 
-ghost use Rattle.std.specs.Prelude.{◌≡◌, ◌≢◌, ◌≤◌, ◌⊎◌, ◌↔◌, List, ℕ, length, IsTrue, IsErr, OnOk, OnErr, IsErrOf, Ok, Err, Some, ◌++◌, codes};
-ghost use Rattle.std.specs.Fmt.{decimal};
+ghost use Rattle.std.specs.Prelude.{◌≡◌, ◌≢◌, ◌≤◌, ◌⊎◌, ◌↔◌, List, ℕ, length, IsTrue, IsErr, OnOk, OnErr, IsErrOf, Ok, Err, Some};
 ghost use Rattle.std.specs.Io.KnownBytes.{Appends};
 ghost use Rattle.rec_base.specs.Causes.{Rose};
 ghost use Rattle.rec_base.specs.Contents.{Contents, IsOpened};
@@ -11,13 +10,13 @@ ghost use Rattle.rec_base.specs.declared.name.Name.{Name as NameValue};
 ghost use Rattle.xdf_model.specs.Sample.{Sample as SampleValue};
 ghost use Rattle.chunk_grammar.specs.Chunk.{least_file_text};
 ghost use Rattle.chunk_grammar.specs.declared.chunk.Chunk.{Chunk as ChunkValue};
-ghost use Rattle.record_cli.specs.Words.{record_words, is_usage};
+ghost use Rattle.record_cli.specs.Words.{record_words};
 ghost use Rattle.record_cli.specs.Inputs.{IsFirstForm, IsOtherForm, IsInputName};
 ghost use Rattle.record_cli.specs.Recorded.{IsRecordingOf, IsCreated, SaysFault, record_lines, fault_text, has_fault_line, is_status, is_without_file};
 
 use crate::fault::RecordFault;
 use crate::input::read_inputs;
-use crate::output::{make_ready, say_line, say_lines, write_output};
+use crate::output::{make_ready, say_fault, say_lines, usage_line, write_output};
 use crate::words::read_words;
 use rec_base::{Dock, Failed, Lines, Sink, Source, Word};
 use std::alloc::Global;
@@ -59,31 +58,6 @@ fn record<D: Dock>(alloc: Global, words: &[Word], dock: &mut D) -> Result<(), Re
     let ready = make_ready(alloc, samples)?;
     write_output(dock, out, &ready.text)?;
     say_lines(dock, ready.feed_line.as_str(), ready.recorded_line.as_str())
-}
-
-// The line of a usage fault.
-fn usage_line(why: u8) -> &'static str
-    requires known { IsTrue (is_usage why) }
-    ensures { result.now ≡ codes "fault 2 usage " ++ decimal why }
-{
-    match why {
-        1 => "fault 2 usage 1",
-        2 => "fault 2 usage 2",
-        3 => "fault 2 usage 3",
-        _ => "fault 2 usage 5",
-    }
-}
-
-// Says the line of a fault. Whether it is said changes no status.
-fn say_fault<D: Dock>(dock: &mut D, line: &str)
-    ensures line { SaysFault (D.printed dock.old) (D.printed dock.new) (D.print_faults dock.old) (D.print_faults dock.new) line.now }
-    ensures later { D.print_faults dock.old ≤ D.print_faults dock.new }
-    ensures target { D.target dock.new ≡ D.target dock.old }
-    ensures held { D.held dock.new ≡ D.held dock.old }
-    ensures open_faults { D.open_faults dock.new ≡ D.open_faults dock.old }
-    ensures write_faults { D.write_faults dock.new ≡ D.write_faults dock.old }
-{
-    let _ = say_line(dock, line);
 }
 
 /// Records the captured feed of a plan into a new file, says how much was received and written,

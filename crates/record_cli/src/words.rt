@@ -1,7 +1,7 @@
 //! The words of the command line.
 
 ghost use Rattle.std.specs.Prelude.{◌≡◌, MatchResult, Ok, Err};
-ghost use Rattle.record_cli.specs.Words.{record_words};
+ghost use Rattle.record_cli.specs.Words.{record_words, file_words};
 
 use rec_base::Word;
 
@@ -30,4 +30,21 @@ pub(crate) fn read_words(words: &[Word]) -> Result<(&Word, &Word), Usage>
         return Err(Usage { why: 5 });
     }
     Ok((plan, out))
+}
+
+/// The name in `show FILE`, or the first usage that the words break, by the same numbers. This
+/// project's own.
+pub(crate) fn read_file_words(words: &[Word]) -> Result<&Word, Usage>
+    ensures { MatchResult result (λ name. file_words words.now ≡ Ok name.now) (λ usage. file_words words.now ≡ Err usage.why) }
+{
+    let [command, names @ ..] = words else {
+        return Err(Usage { why: 1 });
+    };
+    if command.bytes() != b"show".as_slice() {
+        return Err(Usage { why: 2 });
+    }
+    match names {
+        [name] => Ok(name),
+        _ => Err(Usage { why: 3 }),
+    }
 }

@@ -6,6 +6,9 @@ ghost use Rattle.recording_model.specs.Recording.{file_document, ledger_document
 use rec_base::{Blob, Memory};
 use std::alloc::Global;
 
+/// The header document of the ledger, stream 0: three channels of `int64`. This project's own.
+pub const LEDGER_DOCUMENT: &[u8] = b"<?xml version=\"1.0\"?><info><name>overruns</name><type>ledger</type><channel_count>3</channel_count><nominal_srate>0</nominal_srate><channel_format>int64</channel_format></info>";
+
 /// The document of the file header.
 pub(crate) fn file_document(alloc: Global) -> Result<Blob, Memory>
     ensures { IfOk result (λ doc. doc ≡ file_document) }
@@ -20,10 +23,7 @@ pub(crate) fn file_document(alloc: Global) -> Result<Blob, Memory>
 pub(crate) fn ledger_document(alloc: Global) -> Result<Blob, Memory>
     ensures { IfOk result (λ doc. doc ≡ ledger_document) }
 {
-    Blob::from_bytes(
-        alloc,
-        b"<?xml version=\"1.0\"?><info><name>overruns</name><type>ledger</type><channel_count>3</channel_count><nominal_srate>0</nominal_srate><channel_format>int64</channel_format></info>",
-    )
+    Blob::from_bytes(alloc, LEDGER_DOCUMENT)
 }
 
 /// The document of a footer, which counts samples and lost positions.

@@ -9,5 +9,7 @@ mod documents;
 mod file_text;
 mod recording;
 
+pub use documents::LEDGER_DOCUMENT;
+pub use file_text::follow;
 pub use recording::{RecordingText, recording_text};
 pub use recording_model::StreamDoc;

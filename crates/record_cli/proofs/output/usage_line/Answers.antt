@@ -1,7 +1,7 @@
 use Rattle.std.proofs.Common.{rules, ◌≡◌, ℕ, List, [], ◌∷◌, ◌++◌, codes, sym, ap, ◌∙◌, ◌+◌, arith}
 use Rattle.std.specs.Fmt.{decimal}
 use Rattle.std.proofs.lemmas.Fmt.{decimal-digits_of}
-use Rattle.record_cli.proofs.record.usage_line.Goals as goal
+use Rattle.record_cli.proofs.output.usage_line.Goals as goal
 
 line_of : (n d : ℕ) → decimal d ≡ (48 + d) ∷ [] → n ≡ d → codes "fault 2 usage " ++ ((48 + d) ∷ []) ≡ codes "fault 2 usage " ++ decimal n
 line_of n d one is = ap (λ (t : List ℕ). codes "fault 2 usage " ++ t) (sym (ap decimal is ∙ one))
