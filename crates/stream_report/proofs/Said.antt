@@ -74,26 +74,6 @@ said_all a b f xs i le said =
 pub rose_later : (a b n : ℕ) → a ≤ b → Rose b n → Rose a n
 rose_later a b n le rose = omega (arith, le, rose)
 
--- the first line and then the ones behind it were said
-pub said_both : (a b c : Option (List ℕ)) (first : List ℕ) (more ls : List (List ℕ)) → ls ≡ first ∷ more → Appends a b (printed_line first) → Appends b c (printed_lines more) → Appends a c (printed_lines ls)
-said_both a b c first more ls e one others =
-    let P : List (List ℕ) → Type 0 = λ t. Appends a c (printed_lines t) in subst P (sym e) (Appends-trans a b c _ _ one others)
-
--- a front of the first line was said
-pub front_first : (a b : Option (List ℕ)) (first : List ℕ) (more ls : List (List ℕ)) → ls ≡ first ∷ more → AppendsFront a b (printed_line first) → AppendsFront a b (printed_lines ls)
-front_first a b first more ls e front =
-    let P : List (List ℕ) → Type 0 = λ t. AppendsFront a b (printed_lines t) in subst P (sym e) (front_longer a b (printed_line first) (printed_lines more) front)
-
--- the first line was said, and a front of the ones behind it
-pub front_both : (a b c : Option (List ℕ)) (first : List ℕ) (more ls : List (List ℕ)) → ls ≡ first ∷ more → Appends a b (printed_line first) → AppendsFront b c (printed_lines more) → AppendsFront a c (printed_lines ls)
-front_both a b c first more ls e one front =
-    let P : List (List ℕ) → Type 0 = λ t. AppendsFront a c (printed_lines t) in subst P (sym e) (front_behind a b c (printed_line first) (printed_lines more) one front)
-
--- the first line was said, and some of the ones behind it
-pub some_both : (a b c : Option (List ℕ)) (first : List ℕ) (more ls : List (List ℕ)) → ls ≡ first ∷ more → Appends a b (printed_line first) → (n : ℕ) → Appends b c (printed_lines (take n more)) → (m : ℕ) × Appends a c (printed_lines (take m ls))
-some_both a b c first more ls e one n others =
-    let P : List (List ℕ) → Type 0 = λ t. Appends a c (printed_lines (take (suc n) t)) in (suc n, subst P (sym e) (Appends-trans a b c _ _ one others))
-
 -- what follows where all went well
 pub on_ok : {T E : Type 0} (r : Result T E) (P Q : Type 0) → (P → Q) → OnOk r P → OnOk r Q
 on_ok (Ok x) P Q f h = f h

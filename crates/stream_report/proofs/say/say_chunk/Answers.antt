@@ -1,39 +1,32 @@
 use Rattle.std.proofs.Common.{List, ℕ, subst, ◌∙◌}
 use Rattle.std.specs.Io.KnownBytes.{Appends}
 use Rattle.rec_base.specs.Known.{AppendsFront, printed_line}
-use Rattle.report_model.specs.Lines.{chunk_lines}
-use Rattle.stream_report.specs.Parts.{first_line, later_lines}
-use Rattle.stream_report.proofs.Parts.{lines_of}
-use Rattle.stream_report.proofs.Said.{said_both, front_first, front_both, some_both, on_ok, rose_later}
+use Rattle.stream_report.proofs.Parts.{said_both, front_first, front_both, some_both}
+use Rattle.stream_report.proofs.Said.{on_ok, rose_later}
 use Rattle.stream_report.proofs.say.say_chunk.Goals as goal
 
 pub returns-in_err-say_line-in-Ok-clause-print : goal.returns-in_err-say_line-in-Ok-clause-print
 returns-in_err-say_line-in-Ok-clause-print g c = λ _.
     let front = c.in_err-say_line-in-Ok.ensures.print in
-    let first = first_line c.args.at c.args.chunk.now in
-    let P : List ℕ → Type 0 = λ t. AppendsFront (g.L.Lines.printed c.args.lines.now) (g.L.Lines.printed c.say_line.new.lines) (printed_line t) in (
-      front_first _ _ first (later_lines c.args.ctx.now c.args.chunk.now) (chunk_lines c.args.ctx.now c.args.at c.args.chunk.now) (lines_of c.args.ctx.now c.args.at c.args.chunk.now) (subst P (c.as_str.ensures.value ∙ c.in-Ok.ensures) front.0),
-      front.1,
-    )
+    let P : List ℕ → Type 0 = λ t. AppendsFront (g.L.Lines.printed c.args.lines.now) (g.L.Lines.printed c.say_line.new.lines) (printed_line t) in
+    (front_first c.args.ctx.now c.args.at c.args.chunk.now _ _ (subst P (c.as_str.ensures.value ∙ c.in-Ok.ensures) front.0), front.1)
 
 pub returns-in_ok-say_line-in-Ok-clause-said : goal.returns-in_ok-say_line-in-Ok-clause-said
 returns-in_ok-say_line-in-Ok-clause-said g c =
     let P : List ℕ → Type 0 = λ t. Appends (g.L.Lines.printed c.args.lines.now) (g.L.Lines.printed c.say_line.new.lines) (printed_line t) in
-    let one = subst P (c.as_str.ensures.value ∙ c.in-Ok.ensures) c.in_ok-say_line-in-Ok.ensures.said in
-    on_ok c.say_later.result _ _ (said_both _ _ _ (first_line c.args.at c.args.chunk.now) (later_lines c.args.ctx.now c.args.chunk.now) (chunk_lines c.args.ctx.now c.args.at c.args.chunk.now) (lines_of c.args.ctx.now c.args.at c.args.chunk.now) one) c.say_later.ensures.said
+    let first = subst P (c.as_str.ensures.value ∙ c.in-Ok.ensures) c.in_ok-say_line-in-Ok.ensures.said in
+    on_ok c.say_later.result _ _ (said_both c.args.ctx.now c.args.at c.args.chunk.now _ _ _ first) c.say_later.ensures.said
 
 pub returns-in_ok-say_line-in-Ok-clause-print : goal.returns-in_ok-say_line-in-Ok-clause-print
 returns-in_ok-say_line-in-Ok-clause-print g c = λ is.
     let P : List ℕ → Type 0 = λ t. Appends (g.L.Lines.printed c.args.lines.now) (g.L.Lines.printed c.say_line.new.lines) (printed_line t) in
-    let one = subst P (c.as_str.ensures.value ∙ c.in-Ok.ensures) c.in_ok-say_line-in-Ok.ensures.said in
-    let front = c.say_later.ensures.print is in (
-      front_both _ _ _ (first_line c.args.at c.args.chunk.now) (later_lines c.args.ctx.now c.args.chunk.now) (chunk_lines c.args.ctx.now c.args.at c.args.chunk.now) (lines_of c.args.ctx.now c.args.at c.args.chunk.now) one front.0,
-      rose_later _ _ _ c.in_ok-say_line-in-Ok.ensures.later front.1,
-    )
+    let first = subst P (c.as_str.ensures.value ∙ c.in-Ok.ensures) c.in_ok-say_line-in-Ok.ensures.said in
+    let front = c.say_later.ensures.print is in
+    (front_both c.args.ctx.now c.args.at c.args.chunk.now _ _ _ first front.0, rose_later _ _ _ c.in_ok-say_line-in-Ok.ensures.later front.1)
 
 pub returns-in_ok-say_line-in-Ok-clause-memory : goal.returns-in_ok-say_line-in-Ok-clause-memory
 returns-in_ok-say_line-in-Ok-clause-memory g c = λ is.
     let P : List ℕ → Type 0 = λ t. Appends (g.L.Lines.printed c.args.lines.now) (g.L.Lines.printed c.say_line.new.lines) (printed_line t) in
-    let one = subst P (c.as_str.ensures.value ∙ c.in-Ok.ensures) c.in_ok-say_line-in-Ok.ensures.said in
+    let first = subst P (c.as_str.ensures.value ∙ c.in-Ok.ensures) c.in_ok-say_line-in-Ok.ensures.said in
     let some = c.say_later.ensures.memory is in
-    some_both _ _ _ (first_line c.args.at c.args.chunk.now) (later_lines c.args.ctx.now c.args.chunk.now) (chunk_lines c.args.ctx.now c.args.at c.args.chunk.now) (lines_of c.args.ctx.now c.args.at c.args.chunk.now) one some.0 some.1
+    some_both c.args.ctx.now c.args.at c.args.chunk.now _ _ _ first some.0 some.1

@@ -1,9 +1,7 @@
-use Rattle.std.proofs.Common.{rules, ◌≡◌, sym, ◌∙◌, arith}
+use Rattle.std.proofs.Common.{rules, Err, ap, sym, ◌∙◌, arith}
 use Rattle.std.proofs.lemmas.Result.{err_from_is_err_and}
 use Rattle.report_model.specs.Lines.{sample_line}
-use Rattle.report_model.specs.Placed.{printed_lines}
-use Rattle.std.specs.Io.KnownBytes.{Appends}
-use Rattle.stream_report.specs.declared.fault.SayFault.TheVariants.{Print}
+use Rattle.stream_report.specs.declared.fault.SayFault.{SayFault}
 use Rattle.stream_report.proofs.Items.{no_more}
 use Rattle.stream_report.proofs.Said.{said_item, front_item, said_all, rose_later}
 use Rattle.stream_report.proofs.say.say_samples.Goals as goal
@@ -12,8 +10,7 @@ use Rattle.stream_report.proofs.say.say_samples.Goals.{else-loop-i-test, then-lo
 pub returns-in_err-say_sample-in-Some-clause-print : goal.returns-in_err-say_sample-in-Some-clause-print
 returns-in_err-say_sample-in-Some-clause-print g c = λ is.
     let exit = err_from_is_err_and c.from_residual.result c.from_residual.ensures.1 in
-    let h = exit.2 in
-    let said = c.in_err-say_sample-in-Some.ensures.print ? in (
+    let said = c.in_err-say_sample-in-Some.ensures.print (ap (λ (e : SayFault). Err e) (sym exit.2) ∙ sym exit.1 ∙ is) in (
       front_item (sample_line c.args.format) _ _ _ c.args.samples.now c.loop-i.i c.in-Some.sample (sym c.get.ensures ∙ c.in-Some.is) c.loop-i.invariant.said said.0,
       rose_later _ _ _ c.loop-i.invariant.later said.1,
     )
