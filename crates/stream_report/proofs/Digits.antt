@@ -16,7 +16,7 @@ next_digit old out new count i n lt so_far last =
     let before : 4 * (count - i) ≡ s + 4 = omega arith in
     let after : 4 * (count - (i + 1)) ≡ s = omega arith in
     let digits : hex_digits i (n / 2 ^ (4 * (count - i))) ≡ hex_digits i (m / 16) =
-        ap (λ (k : ℕ). hex_digits i (n / 2 ^ k)) before ∙ ap (hex_digits i) (shifted_more n s) in
+    ap (λ (k : ℕ). hex_digits i (n / 2 ^ k)) before ∙ ap (hex_digits i) (shifted_more n s) in
     let goes : new ≡ (old ++ hex_digits i (m / 16)) ++ hex_digit (m % 16) ∷ [] = last ∙ ap (λ (t : List ℕ). t ++ hex_digit (m % 16) ∷ []) (so_far ∙ ap (λ (t : List ℕ). old ++ t) digits) in
     let joined : new ≡ old ++ hex_digits (suc i) m = goes ∙ append_assoc old (hex_digits i (m / 16)) (hex_digit (m % 16) ∷ []) in
     joined ∙ ap (λ (k : ℕ). old ++ hex_digits k m) (sym (add-one i)) ∙ ap (λ (k : ℕ). old ++ hex_digits (i + 1) (n / 2 ^ k)) (sym after)

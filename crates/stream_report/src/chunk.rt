@@ -11,6 +11,7 @@ use sample_values::format_name;
 use shape_pattern::find_shape;
 use std::alloc::Global;
 
+// The line of a stream header, with the shape where its document tells one.
 fn header_line(alloc: Global, at: u64, id: u32, doc: &Blob) -> Result<String, Memory>
     ensures { IfOk result (λ line. string_bytes line ≡ first_line at (StreamHeader id doc.now)) }
 {
@@ -27,13 +28,8 @@ fn header_line(alloc: Global, at: u64, id: u32, doc: &Blob) -> Result<String, Me
     }
 }
 
-fn offset_line(
-    alloc: Global,
-    at: u64,
-    id: u32,
-    time: u64,
-    offset: u64,
-) -> Result<String, Memory>
+// The line of a clock offset, with the patterns of its two times.
+fn offset_line(alloc: Global, at: u64, id: u32, time: u64, offset: u64) -> Result<String, Memory>
     ensures { IfOk result (λ line. string_bytes line ≡ first_line at (ClockOffset id time offset)) }
 {
     let mut line = format!(in alloc; "{at} clock-offset id {id} time ")?;
@@ -43,7 +39,8 @@ fn offset_line(
     Ok(line)
 }
 
-/// Makes the first line of a chunk that begins at this byte of the file.
+/// Makes the first line of a chunk that begins at this byte of the file. Only samples have further
+/// lines.
 pub(crate) fn chunk_line(alloc: Global, at: u64, chunk: &Chunk) -> Result<String, Memory>
     ensures { IfOk result (λ line. string_bytes line ≡ first_line at chunk.now) }
 {

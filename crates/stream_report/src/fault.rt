@@ -4,13 +4,13 @@ ghost use Rattle.stream_report.specs.declared.fault.SayFault.TheVariants.{Memory
 use rec_base::Memory;
 use thiserror::Error;
 
-/// Why the lines of a chunk weren't all said.
+/// Why the lines of a chunk weren't all said. This project's own.
 #[derive(Clone, Copy, Debug, PartialEq, Eq, Error)]
 pub enum SayFault {
-    /// A line couldn't be said.
+    /// A call of `say` failed.
     #[error("a line can't be said")]
     Print,
-    /// There was no memory for a line.
+    /// There was no memory for a line, and nothing else went wrong.
     #[error("out of memory")]
     Memory,
 }

@@ -1,4 +1,14 @@
-//! Says what a file holds, chunk by chunk.
+//! Says what a file holds: chunks to lines, for people to read and for programs to compare.
+//!
+//! The lines are this project's own; `report_model` defines them. This crate promises that exactly
+//! those lines are said, each once and in order, for a chunk of any kind and samples of any format;
+//! that where a line can't be said, or where there is no memory, no line behind it is said; and that
+//! each of the two is told apart.
+//!
+//! Nothing is gathered: a line is made when its turn comes, and the lines of a chunk's samples are
+//! made in one buffer, so that the memory taken is that of two lines, however many samples there are.
+//! A sample's bytes are read once, where they lie in the chunk, and none is copied; what is written
+//! into the buffer is their words, which `say` then reads.
 #![tactic(auto)]
 
 mod chunk;
@@ -9,3 +19,6 @@ mod words;
 
 pub use fault::SayFault;
 pub use say::say_chunk;
+
+#[cfg(test)]
+mod tests;

@@ -8,6 +8,7 @@ use crate::words::{push_stamp, push_value};
 use rec_base::Memory;
 use sample_values::{Format, SampleView};
 
+// Appends each value of a sample, behind a blank.
 fn push_values(line: &mut String, format: Format, sample: &SampleView<'_>) -> Result<(), Memory>
     ensures { OnOk result (string_bytes line.new ≡ string_bytes line.old ++ flat_map (λ v. 32 ∷ value_word format v) sample.now.values) }
 {
@@ -18,7 +19,8 @@ fn push_values(line: &mut String, format: Format, sample: &SampleView<'_>) -> Re
     Ok(())
 }
 
-/// Makes the line of a sample, in place of what stood in the buffer.
+/// Makes the line of a sample, in place of what stood in the buffer. At `Memory` the buffer holds
+/// some front of it.
 pub(crate) fn put_sample_line(
     line: &mut String,
     format: Format,

@@ -17,6 +17,7 @@ use rec_base::{Failed, Lines};
 use sample_values::{Format, SampleView};
 use std::alloc::Global;
 
+// Says one line.
 fn say_line<L: Lines>(lines: &mut L, line: &str) -> Result<(), SayFault>
     ensures said { OnOk result (Appends (L.printed lines.old) (L.printed lines.new) (printed_line line.now)) }
     ensures print { OnErr result (AppendsFront (L.printed lines.old) (L.printed lines.new) (printed_line line.now)
@@ -46,12 +47,11 @@ fn say_sample<L: Lines>(
     ensures later { L.print_faults lines.old ≤ L.print_faults lines.new }
     ensures rest { L.rest lines.new ≡ L.rest lines.old }
 {
-    match put_sample_line(line, format, sample) {
-        Ok(()) => say_line(lines, line.as_str()),
-        Err(_) => Err(SayFault::Memory),
-    }
+    put_sample_line(line, format, sample)?;
+    say_line(lines, line.as_str())
 }
 
+// Says a line for each sample. One buffer serves for all of them.
 fn say_samples<L: Lines>(
     alloc: Global,
     lines: &mut L,
@@ -76,8 +76,8 @@ fn say_samples<L: Lines>(
     Ok(())
 }
 
-// Says the lines behind the first one.
-fn say_later<L: Lines>(
+/// Says the lines behind the first one, which only samples have.
+pub(crate) fn say_later<L: Lines>(
     alloc: Global,
     lines: &mut L,
     ctx: &Context,
@@ -100,7 +100,21 @@ fn say_later<L: Lines>(
     }
 }
 
-/// Says the lines of a chunk.
+/// Says the lines of a chunk that begins at this byte of the file, in the context of the streams
+/// before it. What the lines are is this project's own.
+///
+/// - First comes a line with the place, the kind, and what the kind has: the stream's id, the length
+///   of a document or a body, the number of samples, the two times of an offset. A stream header's
+///   line has the stream's shape too, where its document tells one.
+/// - Behind a `samples` line comes a line for each sample, in order: its stamp or `none`, and its
+///   values, by the format of its stream.
+/// - Numbers are decimal, with a `-` where the pattern of an `int` format is of a negative number.
+///   Stamps, times and floats are their patterns in hexadecimal digits, the highest first, with
+///   nothing rounded. A text is an `x` and two such digits a byte.
+///
+/// `Print` comes only where `say` failed: a front of the lines was then said, which may end in the
+/// midst of one. `Memory` comes for want of memory alone: some of the first lines were then said,
+/// each whole, and no others.
 pub fn say_chunk<L: Lines>(
     alloc: Global,
     lines: &mut L,
@@ -117,11 +131,7 @@ pub fn say_chunk<L: Lines>(
     ensures later { L.print_faults lines.old ≤ L.print_faults lines.new }
     ensures rest { L.rest lines.new ≡ L.rest lines.old }
 {
-    match chunk_line(alloc, at, chunk) {
-        Ok(line) => {
-            say_line(lines, line.as_str())?;
-            say_later(alloc, lines, ctx, chunk)
-        }
-        Err(_) => Err(SayFault::Memory),
-    }
+    let line = chunk_line(alloc, at, chunk)?;
+    say_line(lines, line.as_str())?;
+    say_later(alloc, lines, ctx, chunk)
 }

@@ -1,4 +1,4 @@
-//! The words of a line.
+//! The words of a line: numbers, digits, texts and stamps.
 
 ghost use Rattle.std.specs.Prelude.{◌≡◌, ◌++◌, ◌∷◌, ◌<◌, ◌≤◌, ◌^◌, ◌-◌, ◌*◌, ℕ, OnOk, Some, slice_get, string_bytes};
 ghost use Rattle.std.specs.List.{flat_map};
@@ -8,6 +8,7 @@ ghost use Rattle.report_model.specs.Lines.{hex_digit, hex_digits, number_word, s
 use rec_base::Memory;
 use sample_values::{Format, SampleView, Stamp};
 
+// A hexadecimal digit, in lower case.
 fn digit_char(digit: u8) -> char
     requires { digit < 16 }
     ensures value { result ≡ hex_digit digit }
@@ -32,7 +33,8 @@ pub(crate) fn push_hex(line: &mut String, count: u8, number: u64) -> Result<(), 
     Ok(())
 }
 
-/// Appends the number that a two's complement pattern of so many bytes stands for.
+// Appends the number that a two's complement pattern of so many bytes stands for. The patterns from
+// `half` on are those of the negative numbers.
 fn push_signed(line: &mut String, size: u8, pattern: u64) -> Result<(), Memory>
     requires some { 0 < size }
     requires few { size ≤ 8 }
@@ -48,6 +50,7 @@ fn push_signed(line: &mut String, size: u8, pattern: u64) -> Result<(), Memory>
     Ok(())
 }
 
+// Appends a number of a format, given by its pattern. As a text it has no word.
 fn push_number(line: &mut String, format: Format, bits: u64) -> Result<(), Memory>
     ensures { OnOk result (string_bytes line.new ≡ string_bytes line.old ++ number_word format bits) }
 {
@@ -62,6 +65,7 @@ fn push_number(line: &mut String, format: Format, bits: u64) -> Result<(), Memor
     }
 }
 
+// Appends an `x` and two digits for each byte of a text.
 fn push_text(line: &mut String, text: &[u8]) -> Result<(), Memory>
     ensures { OnOk result (string_bytes line.new ≡ string_bytes line.old ++ 120 ∷ flat_map (hex_digits 2) text.now) }
 {
@@ -91,7 +95,7 @@ pub(crate) fn push_value(
     }
 }
 
-/// Appends a time stamp.
+/// Appends a time stamp: the digits of its pattern, or `none`.
 pub(crate) fn push_stamp(line: &mut String, stamp: Stamp) -> Result<(), Memory>
     ensures { OnOk result (string_bytes line.new ≡ string_bytes line.old ++ stamp_word stamp) }
 {
