@@ -1,6 +1,6 @@
 use Rattle.std.proofs.Common.{◌≡◌, List, ℕ, ◌++◌, length, codes, string_bytes, append_assoc, ap, sym, ◌∙◌}
 use Rattle.std.specs.Fmt.{decimal}
-use Rattle.chunk_grammar.specs.declared.chunk.Chunk.TheVariants.{FileHeader, Samples, StreamFooter, Other}
+use Rattle.chunk_grammar.specs.declared.chunk.Chunk.TheVariants.{FileHeader, StreamFooter, Other}
 use Rattle.stream_report.specs.Parts.{first_line}
 use Rattle.stream_report.proofs.chunk.chunk_line.Goals as goal
 

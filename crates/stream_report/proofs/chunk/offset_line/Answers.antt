@@ -1,4 +1,4 @@
-use Rattle.std.proofs.Common.{◌≡◌, List, ℕ, [], ◌∷◌, ◌++◌, codes, string_bytes, append_assoc, ap, ◌∙◌}
+use Rattle.std.proofs.Common.{◌≡◌, List, ℕ, ◌++◌, codes, string_bytes, append_assoc, ap, ◌∙◌}
 use Rattle.std.specs.Fmt.{decimal}
 use Rattle.report_model.specs.Lines.{hex_digits}
 use Rattle.stream_report.proofs.chunk.offset_line.Goals as goal

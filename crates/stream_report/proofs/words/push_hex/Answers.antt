@@ -1,4 +1,4 @@
-use Rattle.std.proofs.Common.{ℕ, List, ◌≡◌, ◌++◌, ◌∷◌, [], ◌+◌, ◌-◌, ◌*◌, ◌/◌, ◌%◌, ◌^◌, ap, ◌∙◌, string_bytes, arith}
+use Rattle.std.proofs.Common.{ℕ, List, ◌≡◌, ◌++◌, ◌∷◌, [], ◌-◌, ◌*◌, ◌/◌, ◌%◌, ◌^◌, ap, ◌∙◌, string_bytes, arith}
 use Rattle.report_model.specs.Lines.{hex_digit}
 use Rattle.stream_report.proofs.Digits.{next_digit, all_digits}
 use Rattle.stream_report.proofs.words.push_hex.Goals as goal
