@@ -3,7 +3,8 @@ use Rattle.std.proofs.Common.{◌≡◌, ℕ, List, Option, inl, inr, refl, subs
 use Rattle.std.specs.Prelude.{Err, IsErr, IsErrOf, ◌⊎◌}
 use Rattle.record_cli.specs.declared.fault.RecordFault.{RecordFault}
 use Rattle.record_cli.specs.declared.fault.RecordFault.TheVariants.{Usage, Say}
-use Rattle.record_cli.specs.Recorded.{SaysFault, usage_of}
+use Rattle.record_cli.specs.Recorded.{usage_of}
+use Rattle.record_cli.specs.Said.{SaysFault}
 use Rattle.record_cli.specs.Words.{record_words}
 
 -- nothing was said before it

@@ -10,4 +10,5 @@ pub mod Recordings
 pub mod Samples
 pub mod ShowFaults
 pub mod Shown
+pub mod ShownWhole
 pub mod Stops

@@ -13,11 +13,12 @@ use Rattle.recording_model.specs.Recording.{IsRecording}
 use Rattle.record_cli.specs.Words.{record_words}
 use Rattle.record_cli.specs.Inputs.{IsFirstForm}
 use Rattle.record_cli.specs.Recorded.{int16_stream, IsRecordingOf}
+use Rattle.record_cli.specs.Show.{IsShownWhole}
 
 pub recording_of : (contents : Option Contents) (words : List (List ℕ)) (plan out : List ℕ) (samples : List Sample) (cs : List Chunk)
-    → record_words words ≡ Ok (plan, out) → IsFirstForm contents plan out samples → IsRecording (int16_stream ∷ []) (one_batch samples) cs → IsFileText cs (least_file_text cs)
+    → record_words words ≡ Ok (plan, out) → IsFirstForm contents plan out samples → IsRecording (int16_stream ∷ []) (one_batch samples) cs → IsFileText cs (least_file_text cs) → IsShownWhole (least_file_text cs) cs
     → IsRecordingOf contents words out samples cs
-recording_of contents words plan out samples cs command form recording text = record { plan = plan; command = command; form = form; recording = recording; text = text }
+recording_of contents words plan out samples cs command form recording text shown = record { plan = plan; command = command; form = form; recording = recording; text = text; shown = shown }
 
 pub becomes_from : (a b c : Option (List ℕ)) (xs ys : List ℕ) → b ≡ a → xs ≡ ys → Becomes b c xs → Becomes a c ys
 becomes_from a b c xs ys same is becomes =

@@ -2,5 +2,6 @@ pub mod Words
 pub mod Plan
 pub mod Feed
 pub mod Inputs
+pub mod Said
 pub mod Recorded
 pub mod Show

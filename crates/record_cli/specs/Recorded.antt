@@ -1,10 +1,8 @@
 -- What is recorded, and what is said of it.
-use Rattle.std.specs.Prelude.{◌≡◌, ℕ, ◌⊎◌, Bool, cond, ◌==◌, ◌||◌, List, [], ◌∷◌, ◌++◌, length, codes, Option, Result, Ok, Err}
+use Rattle.std.specs.Prelude.{◌≡◌, ℕ, Bool, cond, ◌==◌, ◌||◌, List, [], ◌∷◌, ◌++◌, length, codes, Option, Result, Ok, Err}
 use Rattle.std.specs.Fmt.{decimal}
-use Rattle.std.specs.Io.KnownBytes.{Appends}
-use Rattle.rec_base.specs.Causes.{Rose}
 use Rattle.rec_base.specs.Contents.{Contents}
-use Rattle.rec_base.specs.Known.{AppendsFront, Becomes, printed_line}
+use Rattle.rec_base.specs.Known.{Becomes, printed_line}
 use Rattle.xdf_model.specs.Sample.{Sample}
 use Rattle.chunk_grammar.specs.declared.chunk.Chunk.{Chunk}
 use Rattle.chunk_grammar.specs.Chunk.{IsFileText, least_file_text}
@@ -14,18 +12,20 @@ use Rattle.recording_model.specs.Recording.{IsRecording}
 use Rattle.record_cli.specs.Words.{record_words}
 use Rattle.record_cli.specs.Feed.{int16_document, int16_shape}
 use Rattle.record_cli.specs.Inputs.{IsFirstForm}
+use Rattle.record_cli.specs.Show.{IsShownWhole}
 
 -- the one stream of the recording
 abbrev pub int16_stream : StreamDoc
 int16_stream = record { id = 1; doc = int16_document; shape = int16_shape }
 
--- the words name a plan and an output, the inputs are of the form, and cs is the recording of their samples in one batch
+-- the words name a plan and an output, the inputs are of the form, and cs is the recording of their samples in one batch, whose file `show` shows whole
 pub record IsRecordingOf (contents : Option Contents) (words : List (List ℕ)) (out : List ℕ) (samples : List Sample) (cs : List Chunk) : Type 0 where
   pub plan : List ℕ
   pub command : record_words words ≡ Ok (plan, out)
   pub form : IsFirstForm contents plan out samples
   pub recording : IsRecording (int16_stream ∷ []) (one_batch samples) cs
   pub text : IsFileText cs (least_file_text cs)
+  pub shown : IsShownWhole (least_file_text cs) cs
 
 -- a dock whose file of this name was just created
 abbrev pub IsCreated : Option (List ℕ) → Option (List ℕ) → Option (List ℕ) → Option (List ℕ) → List ℕ → Type 0
@@ -61,7 +61,3 @@ abbrev pub fault_text : List (List ℕ) → ℕ → List ℕ
 fault_text words n =
     cond (n == 2) (codes "fault 2 usage " ++ decimal (usage_of (record_words words)))
     (cond (n == 4) (codes "fault 4") (cond (n == 5) (codes "fault 5") (cond (n == 9) (codes "fault 9") (codes "fault 10"))))
-
--- the line of a fault was said, in full unless a line failed
-pub record SaysFault (printed printed' : Option (List ℕ)) (before now : ℕ) (line : List ℕ) : Type 0 where
-  pub said : Appends printed printed' (printed_line line) ⊎ (AppendsFront printed printed' (printed_line line) × Rose before now)

@@ -1,18 +1,16 @@
 -- What `show` says of a file. This project's own.
-use Rattle.std.specs.Prelude.{◌≡◌, ◌≢◌, ◌⊎◌, ℕ, ◌<◌, ◌≤◌, Bool, ◌==◌, ◌||◌, ⊤, List, [], ◌∷◌, ◌++◌, length, Option, Result, Ok, Err, cond, codes}
+use Rattle.std.specs.Prelude.{◌≡◌, ◌≢◌, ◌⊎◌, ℕ, ◌<◌, ◌≤◌, Bool, ◌==◌, ◌||◌, ⊤, List, [], ◌∷◌, ◌++◌, length, map, Option, Result, Ok, Err, cond, codes}
 use Rattle.std.specs.Fmt.{decimal}
 use Rattle.std.specs.List.{AllByRecursion}
-use Rattle.std.specs.Io.KnownBytes.{Appends}
 use Rattle.rec_base.specs.declared.name.Name.TheVariants.{File}
 use Rattle.rec_base.specs.Contents.{Contents, IsInput}
 use Rattle.chunk_grammar.specs.declared.chunk.Chunk.{Chunk}
 use Rattle.chunk_grammar.specs.declared.chunk.Chunk.TheVariants.{FileHeader, StreamHeader, Samples, ClockOffset, Boundary, StreamFooter, Other}
 use Rattle.chunk_grammar.specs.Chunk.{Context, IsChunkText, magic}
 use Rattle.recording_model.specs.Recording.{ledger_document}
-use Rattle.report_model.specs.Placed.{Placed, Stand, context_behind, placed_lines, end_line, printed_lines}
+use Rattle.report_model.specs.Placed.{Placed, Stand, context_behind, placed_lines, end_line}
 use Rattle.record_cli.specs.Words.{file_words}
 use Rattle.record_cli.specs.Feed.{int16_document}
-use Rattle.record_cli.specs.Recorded.{SaysFault}
 
 -- the most bytes of a file that is shown in this stage
 abbrev pub show_limit : ℕ
@@ -39,6 +37,10 @@ pub record IsFront (b : List ℕ) (placed : List Placed) (rest : List ℕ) : Typ
   pub stand : Stand [] placed chunks rest
   pub shown : AllByRecursion (λ p. IsShown p.chunk) placed
 
+-- these are all chunks of a file that is shown up to its end
+abbrev pub IsShownWhole : List ℕ → List Chunk → Type 0
+IsShownWhole b cs = (placed : List Placed) × IsFront b placed [] × (map (λ p. p.chunk) placed ≡ cs)
+
 -- the words are `show` and a name, which has this text
 pub record IsShowOf (contents : Option Contents) (words : List (List ℕ)) (b : List ℕ) : Type 0 where
   pub name : List ℕ
@@ -53,13 +55,7 @@ front_lines placed = placed_lines [] 4 placed
 abbrev pub show_lines : List ℕ → List Placed → List (List ℕ)
 show_lines b placed = front_lines placed ++ end_line (length b) (length placed) ∷ []
 
--- these lines were said in full, and then the line of a fault
-pub record SaysBehind (printed printed' : Option (List ℕ)) (before now : ℕ) (lines : List (List ℕ)) (line : List ℕ) : Type 0 where
-  pub between : Option (List ℕ)
-  pub lines_said : Appends printed between (printed_lines lines)
-  pub fault : SaysFault between printed' before now line
-
--- a longer file than is shown, or one that has a place other than its end at which no chunk stands that is shown
+-- a file that has a place other than its end at which no chunk stands that is shown
 pub record IsOtherPlace (b : List ℕ) (placed : List Placed) : Type 0 where
   pub rest : List ℕ
   pub front : IsFront b placed rest

@@ -10,8 +10,8 @@ ghost use Rattle.rec_base.specs.declared.name.Name.TheVariants.{File};
 ghost use Rattle.chunk_grammar.specs.Chunk.{magic};
 ghost use Rattle.report_model.specs.Placed.{Placed, printed_lines};
 ghost use Rattle.record_cli.specs.Words.{file_words};
-ghost use Rattle.record_cli.specs.Recorded.{SaysFault};
-ghost use Rattle.record_cli.specs.Show.{IsShowOf, IsFront, IsOtherPlace, SaysBehind, show_limit, front_lines, show_lines, is_show_status, says_one_line, show_fault_text};
+ghost use Rattle.record_cli.specs.Said.{SaysFault, SaysBehind};
+ghost use Rattle.record_cli.specs.Show.{IsShowOf, IsFront, IsOtherPlace, show_limit, front_lines, show_lines, is_show_status, says_one_line, show_fault_text};
 
 use crate::bytes::behind;
 use crate::output::{say_fault, usage_line};

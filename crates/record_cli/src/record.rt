@@ -12,7 +12,8 @@ ghost use Rattle.chunk_grammar.specs.Chunk.{least_file_text};
 ghost use Rattle.chunk_grammar.specs.declared.chunk.Chunk.{Chunk as ChunkValue};
 ghost use Rattle.record_cli.specs.Words.{record_words};
 ghost use Rattle.record_cli.specs.Inputs.{IsFirstForm, IsOtherForm, IsInputName};
-ghost use Rattle.record_cli.specs.Recorded.{IsRecordingOf, IsCreated, SaysFault, record_lines, fault_text, has_fault_line, is_status, is_without_file};
+ghost use Rattle.record_cli.specs.Recorded.{IsRecordingOf, IsCreated, record_lines, fault_text, has_fault_line, is_status, is_without_file};
+ghost use Rattle.record_cli.specs.Said.{SaysFault};
 
 use crate::fault::RecordFault;
 use crate::input::read_inputs;
