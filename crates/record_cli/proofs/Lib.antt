@@ -5,6 +5,7 @@ pub mod Feeds
 pub mod FeedSizes
 pub mod Fronts
 pub mod Inputs
+pub mod OneFront
 pub mod Plans
 pub mod Recordings
 pub mod Samples

@@ -1,9 +1,9 @@
 //! The top call of the commands on files.
 
-ghost use Rattle.std.specs.Prelude.{◌≡◌, ◌≢◌, ◌≤◌, ◌<◌, ◌⊎◌, ◌↔◌, ◌++◌, [], List, ℕ, length, take, IsTrue, IsErr, OnOk, OnErr, IsErrOf, Ok, Err, codes};
+ghost use Rattle.std.specs.Prelude.{◌≡◌, ◌≢◌, ◌≤◌, ◌<◌, ◌⊎◌, ◌↔◌, ◌++◌, [], List, ℕ, length, take, IsTrue, IsErr, OnOk, OnErr, IsErrOf, Ok, Err, Some, codes};
 ghost use Rattle.std.specs.Io.KnownBytes.{Appends};
 ghost use Rattle.rec_base.specs.Causes.{Rose};
-ghost use Rattle.rec_base.specs.Contents.{IsOpened};
+ghost use Rattle.rec_base.specs.Contents.{Contents, IsOpened};
 ghost use Rattle.rec_base.specs.Known.{AppendsFront};
 ghost use Rattle.rec_base.specs.Moved.{HasFailed};
 ghost use Rattle.rec_base.specs.declared.name.Name.TheVariants.{File};
@@ -110,6 +110,10 @@ pub fn file_main<D: Dock>(alloc: Global, words: &[Word], dock: &mut D) -> u8
         × SaysBehind (D.printed dock.old) (D.printed dock.new) (D.print_faults dock.old) (D.print_faults dock.new) [] (codes "fault 10"))
         ⊎ ((b : List ℕ) × (placed : List Placed) × IsShowOf (D.contents dock.old) words.now b × (length b ≤ show_limit) × IsOtherPlace b placed
         × SaysBehind (D.printed dock.old) (D.printed dock.new) (D.print_faults dock.old) (D.print_faults dock.new) (front_lines placed) (codes "fault 10")) }
+
+    // where contents are told, such a file isn't one that is shown up to its end
+    ensures other_form_alone { result ≡ 10 → (texts : Contents) → (D.contents dock.old ≡ Some texts) → (b : List ℕ) → (placed : List Placed)
+        → IsShowOf (D.contents dock.old) words.now b → length b ≤ show_limit → IsFront b placed [] → ⊥ }
 
     // the line of a fault that stands alone, in full unless a line failed
     ensures fault_line { IsTrue (says_one_line result) →
