@@ -3,7 +3,6 @@ use Rattle.std.proofs.Common.{◌≡◌, ℕ, zero, suc, ◌+◌, ◌≤◌, Lis
 use Rattle.std.specs.List.{slice_get}
 use Rattle.std.specs.Option.{option_map}
 use Rattle.std.proofs.Math.Seq.{take-append-add}
-use Rattle.std.proofs.lemmas.List.{length-map, take_all}
 use Rattle.std.proofs.KnownBytes.{Appends-trans}
 use Rattle.std.proofs.lemmas.Option.{slice_get-map}
 use Rattle.std.proofs.lemmas.Grind.{flat_map-append}
@@ -62,13 +61,6 @@ said_item f a b c xs i x e = said_next a b c (map f xs) i (f x) (mapped_at f xs 
 pub front_item : {X : Type 0} (f : X → List ℕ) (a b c : Option (List ℕ)) (xs : List X) (i : ℕ) (x : X) → slice_get xs i ≡ Some x
     → Appends a b (printed_lines (take i (map f xs))) → AppendsFront b c (printed_line (f x)) → AppendsFront a c (printed_lines (map f xs))
 front_item f a b c xs i x e = front_next a b c (map f xs) i (f x) (mapped_at f xs i x e)
-
--- the lines of all items were said
-pub said_all : {X : Type 0} (a b : Option (List ℕ)) (f : X → List ℕ) (xs : List X) (i : ℕ) → length xs ≤ i → Appends a b (printed_lines (take i (map f xs))) → Appends a b (printed_lines (map f xs))
-said_all a b f xs i le said =
-    let P : List (List ℕ) → Type 0 = λ ls. Appends a b (printed_lines ls) in
-    let within : length (map f xs) ≤ i = omega (arith, length-map xs f, le) in
-    subst P (take_all i (map f xs) within) said
 
 -- the count rose since an earlier moment too
 pub rose_later : (a b n : ℕ) → a ≤ b → Rose b n → Rose a n

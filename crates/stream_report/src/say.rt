@@ -68,9 +68,8 @@ fn say_samples<L: Lines>(
 {
     let mut line = String::new(alloc);
     for i in 0..samples.len() {
-        match samples.get(i) {
-            Some(sample) => say_sample(lines, &mut line, format, &sample)?,
-            None => break,
+        if let Some(sample) = samples.get(i) {
+            say_sample(lines, &mut line, format, &sample)?;
         }
     }
     Ok(())

@@ -44,6 +44,7 @@ fn push_signed(line: &mut String, size: u8, pattern: u64) -> Result<(), Memory>
     if pattern < half {
         write!(line, "{pattern}")?;
     } else {
+        // How far the number is below 0; nothing for a pattern of more bytes.
         let below = half.saturating_sub(pattern - half);
         write!(line, "-{below}")?;
     }
