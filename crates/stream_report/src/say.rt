@@ -4,7 +4,6 @@ ghost use Rattle.std.specs.Prelude.{◌≡◌, ◌≤◌, ◌⊎◌, ℕ, List, 
 ghost use Rattle.std.specs.Io.KnownBytes.{Appends};
 ghost use Rattle.rec_base.specs.Causes.{Rose};
 ghost use Rattle.rec_base.specs.Known.{AppendsFront, printed_line};
-ghost use Rattle.chunk_grammar.specs.Chunk.{IsChunkText};
 ghost use Rattle.report_model.specs.Lines.{chunk_lines, sample_line};
 ghost use Rattle.report_model.specs.Placed.{printed_lines};
 ghost use Rattle.stream_report.specs.Parts.{later_lines};
@@ -121,7 +120,6 @@ pub fn say_chunk<L: Lines>(
     at: u64,
     chunk: &Chunk,
 ) -> Result<(), SayFault>
-    requires { (b : List ℕ) × IsChunkText ctx.now chunk.now b }
     ensures said { OnOk result (Appends (L.printed lines.old) (L.printed lines.new) (printed_lines (chunk_lines ctx.now at chunk.now))) }
     ensures print { IsErrOf result SayFault.Print → AppendsFront (L.printed lines.old) (L.printed lines.new) (printed_lines (chunk_lines ctx.now at chunk.now))
         × Rose (L.print_faults lines.old) (L.print_faults lines.new) }
