@@ -1,4 +1,4 @@
-//! The inputs of a recording: the plan, the header document and the feed.
+//! The inputs of the commands: a file, and the plan, header document and feed of a recording.
 
 ghost use Rattle.std.specs.Prelude.{◌≡◌, ◌≢◌, ◌≤◌, ◌<◌, ◌⊎◌, List, ℕ, length, IfOk, OnOk, OnErr, IsErrOf};
 ghost use Rattle.rec_base.specs.Causes.{Rose};

@@ -1,4 +1,4 @@
-//! What a recording writes and says.
+//! What a recording writes, and what both commands say.
 
 ghost use Rattle.std.specs.Prelude.{◌≡◌, ◌≤◌, ◌⊎◌, ◌++◌, ◌∷◌, [], List, ℕ, length, string_bytes, IfOk, OnOk, OnErr, IsErrOf, IsTrue, codes};
 ghost use Rattle.std.specs.Fmt.{decimal};

@@ -2,7 +2,8 @@
 //!
 //! For now a recording has one stream and one batch, small enough that its file has no boundary:
 //! `recording_text` makes the whole text of its file, which is the least-width text of the
-//! chunks that `recording_model` lays out.
+//! chunks that `recording_model` lays out. `follow` takes a context behind a chunk, for whoever
+//! reads such a file again.
 #![tactic(auto)]
 
 mod documents;
