@@ -9,7 +9,7 @@ use Rattle.chunk_grammar.specs.declared.chunk.Chunk.{Chunk}
 use Rattle.chunk_grammar.specs.Chunk.{Context, context_after, IsChunkText, tag_of, magic}
 use Rattle.chunk_laws.proofs.Places.{one_reading}
 use Rattle.report_model.specs.Placed.{Placed, Stand, context_behind}
-use Rattle.record_cli.specs.Show.{IsShown, IsStop, IsFront, IsOtherPlace, IsShowOf, show_limit}
+use Rattle.record_cli.specs.Show.{IsShown, IsStop, IsShownFront, IsOtherPlace, IsShowOf, show_limit}
 
 long_text : (len tag content u : List ℕ) → u ≡ len ++ tag ++ content → length tag ≡ 2 → 2 ≤ length u
 long_text len tag content u whole two = omega (arith, ap length whole, length-append (len ++ tag) content, length-append len tag, two)
@@ -35,7 +35,7 @@ no_stop ctx (p ∷ placed) (q ∷ other) b rest stand shown there some stop =
     no_stop (context_after ctx p.chunk) placed other there.1 rest (subst P after stand.5) shown.1 (subst Q (sym one.0) there.5) some (subst R (sym one.0) stop)
 
 -- the same of a whole file
-pub not_whole : (b : List ℕ) (placed other : List Placed) → IsFront b placed [] → IsOtherPlace b other → ⊥
+pub not_whole : (b : List ℕ) (placed other : List Placed) → IsShownFront b placed [] → IsOtherPlace b other → ⊥
 not_whole b placed other whole there =
     let same : whole.chunks ≡ there.front.chunks = append_cancel_left magic whole.chunks there.front.chunks (sym whole.whole ∙ there.front.whole) in
     let P : List ℕ → Type 0 = λ t. Stand [] placed t [] in
@@ -53,13 +53,13 @@ one_text contents texts words b d told one other =
 -- a file that is too long, or stops at some place, isn't shown up to its end
 pub long_is_alone : (contents : Option Contents) (texts : Contents) (words : List (List ℕ)) → contents ≡ Some texts
     → (b : List ℕ) × IsShowOf contents words b × (show_limit < length b)
-    → (d : List ℕ) (placed : List Placed) → IsShowOf contents words d → length d ≤ show_limit → IsFront d placed [] → ⊥
+    → (d : List ℕ) (placed : List Placed) → IsShowOf contents words d → length d ≤ show_limit → IsShownFront d placed [] → ⊥
 long_is_alone contents texts words told long d placed show within whole =
     omega (arith, ap length (one_text contents texts words long.0 d told long.1 show), long.2, within)
 
 pub stop_is_alone : (contents : Option Contents) (texts : Contents) (words : List (List ℕ)) → contents ≡ Some texts
     → (b : List ℕ) (other : List Placed) → IsShowOf contents words b → IsOtherPlace b other
-    → (d : List ℕ) (placed : List Placed) → IsShowOf contents words d → length d ≤ show_limit → IsFront d placed [] → ⊥
+    → (d : List ℕ) (placed : List Placed) → IsShowOf contents words d → length d ≤ show_limit → IsShownFront d placed [] → ⊥
 stop_is_alone contents texts words told b other at_other place d placed show within whole =
-    let P : List ℕ → Type 0 = λ t. IsFront t placed [] in
+    let P : List ℕ → Type 0 = λ t. IsShownFront t placed [] in
     not_whole b placed other (subst P (one_text contents texts words d b told show at_other) whole) place

@@ -1,5 +1,5 @@
 -- Where `show` stops.
-use Rattle.std.proofs.Common.{◌≡◌, ℕ, List, ◌++◌, Bool, true, false, inl, inr, subst}
+use Rattle.std.proofs.Common.{◌≡◌, ℕ, inl, inr, subst}
 use Rattle.std.specs.Prelude.{◌⊎◌}
 use Rattle.xdf_model.specs.declared.types.Why.{Why}
 use Rattle.chunk_grammar.specs.declared.chunk.Chunk.{Chunk}

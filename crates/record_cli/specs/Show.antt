@@ -31,7 +31,7 @@ abbrev pub IsStop : Context → List ℕ → Type 0
 IsStop ctx b = (c : Chunk) (u after : List ℕ) → IsChunkText ctx c u → b ≡ u ++ after → IsShown c → ⊥
 
 -- a file is the magic, chunks that are shown, and a rest
-pub record IsFront (b : List ℕ) (placed : List Placed) (rest : List ℕ) : Type 0 where
+pub record IsShownFront (b : List ℕ) (placed : List Placed) (rest : List ℕ) : Type 0 where
   pub chunks : List ℕ
   pub whole : b ≡ magic ++ chunks
   pub stand : Stand [] placed chunks rest
@@ -39,7 +39,7 @@ pub record IsFront (b : List ℕ) (placed : List Placed) (rest : List ℕ) : Typ
 
 -- these are all chunks of a file that is shown up to its end
 abbrev pub IsShownWhole : List ℕ → List Chunk → Type 0
-IsShownWhole b cs = (placed : List Placed) × IsFront b placed [] × (map (λ p. p.chunk) placed ≡ cs)
+IsShownWhole b cs = (placed : List Placed) × IsShownFront b placed [] × (map (λ p. p.chunk) placed ≡ cs)
 
 -- the words are `show` and a name, which has this text
 pub record IsShowOf (contents : Option Contents) (words : List (List ℕ)) (b : List ℕ) : Type 0 where
@@ -58,7 +58,7 @@ show_lines b placed = front_lines placed ++ end_line (length b) (length placed) 
 -- a file that has a place other than its end at which no chunk stands that is shown
 pub record IsOtherPlace (b : List ℕ) (placed : List Placed) : Type 0 where
   pub rest : List ℕ
-  pub front : IsFront b placed rest
+  pub front : IsShownFront b placed rest
   pub some : rest ≢ []
   pub stop : IsStop (context_behind [] placed) rest
 

@@ -11,7 +11,7 @@ ghost use Rattle.chunk_grammar.specs.Chunk.{magic};
 ghost use Rattle.report_model.specs.Placed.{Placed, printed_lines};
 ghost use Rattle.record_cli.specs.Words.{file_words};
 ghost use Rattle.record_cli.specs.Said.{SaysFault, SaysBehind};
-ghost use Rattle.record_cli.specs.Show.{IsShowOf, IsFront, IsOtherPlace, show_limit, front_lines, show_lines, is_show_status, says_one_line, show_fault_text};
+ghost use Rattle.record_cli.specs.Show.{IsShowOf, IsShownFront, IsOtherPlace, show_limit, front_lines, show_lines, is_show_status, says_one_line, show_fault_text};
 
 use crate::bytes::behind;
 use crate::output::{say_fault, usage_line};
@@ -23,7 +23,7 @@ use std::alloc::Global;
 
 // Shows a file.
 fn show<D: Dock>(alloc: Global, words: &[Word], dock: &mut D) -> Result<(), ShowFault>
-    ensures shown { OnOk result ((b : List ℕ) × (placed : List Placed) × IsShowOf (D.contents dock.old) words.now b × (length b ≤ show_limit) × IsFront b placed []
+    ensures shown { OnOk result ((b : List ℕ) × (placed : List Placed) × IsShowOf (D.contents dock.old) words.now b × (length b ≤ show_limit) × IsShownFront b placed []
         × Appends (D.printed dock.old) (D.printed dock.new) (printed_lines (show_lines b placed))) }
     ensures usage { (why : ℕ) → IsErrOf result (ShowFault.Usage why) → file_words words.now ≡ Err why }
     ensures used { IsErr (file_words words.now) → (why : ℕ) × IsErrOf result (ShowFault.Usage why) }
@@ -33,10 +33,10 @@ fn show<D: Dock>(alloc: Global, words: &[Word], dock: &mut D) -> Result<(), Show
         ⊎ ((name : List ℕ) × (first : D.Source) × (last : D.Source) × (file_words words.now ≡ Ok name)
         × IsOpened (D.contents dock.old) (File name) 0 (D.Source.left first) × HasFailed D.Source.left D.Source.faults D.Source.mark first last) }
     ensures say { IsErrOf result ShowFault.Say → (b : List ℕ) × (placed : List Placed) × (rest : List ℕ) × IsShowOf (D.contents dock.old) words.now b × (length b ≤ show_limit)
-        × IsFront b placed rest × AppendsFront (D.printed dock.old) (D.printed dock.new) (printed_lines (show_lines b placed)) × Rose (D.print_faults dock.old) (D.print_faults dock.new) }
+        × IsShownFront b placed rest × AppendsFront (D.printed dock.old) (D.printed dock.new) (printed_lines (show_lines b placed)) × Rose (D.print_faults dock.old) (D.print_faults dock.new) }
     ensures memory { IsErrOf result ShowFault.Memory → (D.printed dock.new ≡ D.printed dock.old)
         ⊎ ((b : List ℕ) × (placed : List Placed) × (rest : List ℕ) × IsShowOf (D.contents dock.old) words.now b × (length b ≤ show_limit)
-        × IsFront b placed rest × (n : ℕ) × Appends (D.printed dock.old) (D.printed dock.new) (printed_lines (take n (front_lines placed)))) }
+        × IsShownFront b placed rest × (n : ℕ) × Appends (D.printed dock.old) (D.printed dock.new) (printed_lines (take n (front_lines placed)))) }
     ensures too_long { IsErrOf result ShowFault.TooLong → (b : List ℕ) × IsShowOf (D.contents dock.old) words.now b × (show_limit < length b) }
     ensures other { IsErrOf result ShowFault.OtherPlace → (b : List ℕ) × (placed : List Placed) × IsShowOf (D.contents dock.old) words.now b × (length b ≤ show_limit)
         × IsOtherPlace b placed × Appends (D.printed dock.old) (D.printed dock.new) (printed_lines (front_lines placed)) }
@@ -82,7 +82,7 @@ pub fn file_main<D: Dock>(alloc: Global, words: &[Word], dock: &mut D) -> u8
     ensures statuses { IsTrue (is_show_status result) }
 
     // the whole file was shown
-    ensures shown { result ≡ 0 → (b : List ℕ) × (placed : List Placed) × IsShowOf (D.contents dock.old) words.now b × (length b ≤ show_limit) × IsFront b placed []
+    ensures shown { result ≡ 0 → (b : List ℕ) × (placed : List Placed) × IsShowOf (D.contents dock.old) words.now b × (length b ≤ show_limit) × IsShownFront b placed []
         × Appends (D.printed dock.old) (D.printed dock.new) (printed_lines (show_lines b placed)) }
 
     ensures usage { (result ≡ 2) ↔ IsErr (file_words words.now) }
@@ -96,12 +96,12 @@ pub fn file_main<D: Dock>(alloc: Global, words: &[Word], dock: &mut D) -> u8
 
     // some front of the lines was said
     ensures say_fault { result ≡ 8 → (b : List ℕ) × (placed : List Placed) × (rest : List ℕ) × IsShowOf (D.contents dock.old) words.now b × (length b ≤ show_limit)
-        × IsFront b placed rest × AppendsFront (D.printed dock.old) (D.printed dock.new) (printed_lines (show_lines b placed)) × Rose (D.print_faults dock.old) (D.print_faults dock.new) }
+        × IsShownFront b placed rest × AppendsFront (D.printed dock.old) (D.printed dock.new) (printed_lines (show_lines b placed)) × Rose (D.print_faults dock.old) (D.print_faults dock.new) }
 
     // some of the lines were said, and then the line of the fault
     ensures memory { result ≡ 9 → SaysBehind (D.printed dock.old) (D.printed dock.new) (D.print_faults dock.old) (D.print_faults dock.new) [] (codes "fault 9")
         ⊎ ((b : List ℕ) × (placed : List Placed) × (rest : List ℕ) × IsShowOf (D.contents dock.old) words.now b × (length b ≤ show_limit)
-        × IsFront b placed rest × (n : ℕ)
+        × IsShownFront b placed rest × (n : ℕ)
         × SaysBehind (D.printed dock.old) (D.printed dock.new) (D.print_faults dock.old) (D.print_faults dock.new) (take n (front_lines placed)) (codes "fault 9")) }
 
     // the file is too long, and nothing else was said; or all lines up to the place were said
@@ -113,7 +113,7 @@ pub fn file_main<D: Dock>(alloc: Global, words: &[Word], dock: &mut D) -> u8
 
     // where contents are told, such a file isn't one that is shown up to its end
     ensures other_form_alone { result ≡ 10 → (texts : Contents) → (D.contents dock.old ≡ Some texts) → (b : List ℕ) → (placed : List Placed)
-        → IsShowOf (D.contents dock.old) words.now b → length b ≤ show_limit → IsFront b placed [] → ⊥ }
+        → IsShowOf (D.contents dock.old) words.now b → length b ≤ show_limit → IsShownFront b placed [] → ⊥ }
 
     // the line of a fault that stands alone, in full unless a line failed
     ensures fault_line { IsTrue (says_one_line result) →

@@ -8,8 +8,8 @@ ghost use Rattle.std.specs.declared.io.ErrorKind.TheVariants.{InvalidData};
 
 mod bytes;
 mod fault;
-mod file;
 mod feed;
+mod file;
 mod input;
 mod output;
 mod plan;
@@ -20,6 +20,8 @@ mod real_tests;
 mod record;
 mod show;
 mod show_fault;
+#[cfg(test)]
+mod show_tests;
 #[cfg(test)]
 mod tests;
 mod words;

@@ -12,7 +12,7 @@ ghost use Rattle.chunk_grammar.specs.declared.chunk.Chunk.{Chunk as ChunkValue};
 ghost use Rattle.chunk_grammar.specs.Chunk.{IsChunkText, context_after, magic};
 ghost use Rattle.report_model.specs.Lines.{chunk_lines};
 ghost use Rattle.report_model.specs.Placed.{Placed, Stand, context_behind, end_line, printed_lines};
-ghost use Rattle.record_cli.specs.Show.{IsShown, IsStop, IsFront, IsOtherPlace, show_limit, front_lines, show_lines};
+ghost use Rattle.record_cli.specs.Show.{IsShown, IsStop, IsShownFront, IsOtherPlace, show_limit, front_lines, show_lines};
 
 use crate::bytes::behind;
 use crate::fault::RecordFault;
@@ -30,7 +30,11 @@ use stream_report::{SayFault, say_chunk};
 const SHOW_LIMIT: u64 = 1_048_576;
 
 // Opens a file and reads it to its end.
-pub(crate) fn read_file<D: Dock>(alloc: Global, dock: &mut D, name: &Word) -> Result<Blob, ShowFault>
+pub(crate) fn read_file<D: Dock>(
+    alloc: Global,
+    dock: &mut D,
+    name: &Word,
+) -> Result<Blob, ShowFault>
     ensures text { IfOk result (λ text. IsInput (D.contents dock.old) (NameValue.File name.now) 0 text × (length text ≤ show_limit)) }
     ensures too_long { IsErrOf result ShowFault.TooLong → (text : List ℕ) × IsInput (D.contents dock.old) (NameValue.File name.now) 0 text × (show_limit < length text) }
     ensures failed { IsErrOf result ShowFault.Open → Rose (D.open_faults dock.old) (D.open_faults dock.new)
@@ -124,7 +128,11 @@ fn show_chunk<D: Dock>(
 
 /// Says the lines of the chunks that stand one after the other behind the magic, up to the end.
 /// Answers how many there are.
-pub(crate) fn show_chunks<D: Dock>(alloc: Global, dock: &mut D, bytes: &[u8]) -> Result<u64, ShowFault>
+pub(crate) fn show_chunks<D: Dock>(
+    alloc: Global,
+    dock: &mut D,
+    bytes: &[u8],
+) -> Result<u64, ShowFault>
     requires short { length bytes.now ≤ show_limit }
     ensures ok { IfOk result (λ chunks. (placed : List Placed) × Stand [] placed bytes.now [] × AllByRecursion (λ p. IsShown p.chunk) placed
         × (chunks ≡ length placed) × Appends (D.printed dock.old) (D.printed dock.new) (printed_lines (front_lines placed))) }
@@ -158,7 +166,12 @@ pub(crate) fn show_chunks<D: Dock>(alloc: Global, dock: &mut D, bytes: &[u8]) ->
 }
 
 /// Says the last line: the size of the file, and how many chunks it has.
-pub(crate) fn say_end<D: Dock>(alloc: Global, dock: &mut D, size: usize, chunks: u64) -> Result<(), ShowFault>
+pub(crate) fn say_end<D: Dock>(
+    alloc: Global,
+    dock: &mut D,
+    size: usize,
+    chunks: u64,
+) -> Result<(), ShowFault>
     ensures ok { OnOk result (Appends (D.printed dock.old) (D.printed dock.new) (printed_line (end_line size chunks))) }
     ensures say { IsErrOf result ShowFault.Say → AppendsFront (D.printed dock.old) (D.printed dock.new) (printed_line (end_line size chunks))
         × Rose (D.print_faults dock.old) (D.print_faults dock.new) }

@@ -6,23 +6,23 @@ use std::test::Fail;
 
 const PLAN: &[u8] = b"mode turns\nfeed 1 doc h file a\n";
 
-const RECORD: &[&str] = &["record", "p", "out"];
+pub(crate) const RECORD: &[&str] = &["record", "p", "out"];
 
 // The reply, and both test samples.
 const FEED_FRONT: &[u8] =
     b"LSL/110 200 OK\r\nUID: u1\r\nByte-Order: 1234\r\nSuppress-Subnormals: 0\r\nData-Protocol-Version: 110\r\n\r\n\x02\0\0\0\0\0\0\0\0\0\0\x02\0\0\0\0\0\0\0\0\0\0";
 
 // The file of three samples up to its Samples chunk, that chunk, and the file's end.
-const HEADERS: &[u8] =
+pub(crate) const HEADERS: &[u8] =
     b"XDF:\x01\x3A\x01\0<?xml version=\"1.0\"?><info><version>1.0</version></info>\x01\xB6\x02\0\0\0\0\0<?xml version=\"1.0\"?><info><name>overruns</name><type>ledger</type><channel_count>3</channel_count><nominal_srate>0</nominal_srate><channel_format>int64</channel_format></info>\x01\x59\x02\0\x01\0\0\0<info><channel_count>1</channel_count><channel_format>int16</channel_format></info>";
 
-const SAMPLES: &[u8] = b"\x01\x11\x03\0\x01\0\0\0\x01\x03\0\x01\0\0\x02\0\0\x03\0";
+pub(crate) const SAMPLES: &[u8] = b"\x01\x11\x03\0\x01\0\0\0\x01\x03\0\x01\0\0\x02\0\0\x03\0";
 
-const FOOTERS: &[u8] =
+pub(crate) const FOOTERS: &[u8] =
     b"\x01\x5C\x06\0\0\0\0\0<?xml version=\"1.0\"?><info><sample_count>0</sample_count><overruns>0</overruns></info>\x01\x5C\x06\0\x01\0\0\0<?xml version=\"1.0\"?><info><sample_count>3</sample_count><overruns>0</overruns></info>";
 
 // A feed of so many stampless samples, the numbers from 1 on.
-fn feed_of(alloc: Global, samples: u16) -> Result<Vec<u8>, Fail> {
+pub(crate) fn feed_of(alloc: Global, samples: u16) -> Result<Vec<u8>, Fail> {
     let mut feed = Vec::new(alloc);
     feed.extend_from_slice(FEED_FRONT)?;
     for number in 1..=samples {
@@ -32,7 +32,7 @@ fn feed_of(alloc: Global, samples: u16) -> Result<Vec<u8>, Fail> {
     Ok(feed)
 }
 
-fn file(alloc: Global, path: &str, bytes: &[u8]) -> Result<(Name, MemSource), Fail> {
+pub(crate) fn file(alloc: Global, path: &str, bytes: &[u8]) -> Result<(Name, MemSource), Fail> {
     let name = Name::File(Word::from_bytes(alloc, path.as_bytes())?);
     let piece = Piece::Give(Blob::from_bytes(alloc, bytes)?);
     Ok((name, MemSource::new(vec![in alloc; piece]?)))
@@ -40,20 +40,20 @@ fn file(alloc: Global, path: &str, bytes: &[u8]) -> Result<(Name, MemSource), Fa
 
 // The calls of a dock that fail, counted from 1 for each kind; 0 stands for none.
 #[derive(Clone, Copy)]
-struct Fails {
-    open: u64,
-    write: u64,
-    say: u64,
+pub(crate) struct Fails {
+    pub(crate) open: u64,
+    pub(crate) write: u64,
+    pub(crate) say: u64,
 }
 
-const NONE: Fails = Fails {
+pub(crate) const NONE: Fails = Fails {
     open: 0,
     write: 0,
     say: 0,
 };
 
 // Records on a dock with these inputs.
-fn record_on(
+pub(crate) fn record_on(
     alloc: Global,
     words: &[&str],
     doc: &[u8],

@@ -1,10 +1,10 @@
-use Rattle.std.proofs.Common.{◌≡◌, ℕ, List, [], length, take, Option, refl, sym, ap, ◌∙◌, subst, inr}
+use Rattle.std.proofs.Common.{◌≡◌, ℕ, List, [], length, Option, refl, sym, ap, ◌∙◌, subst, inr}
 use Rattle.std.proofs.lemmas.Result.{on_ok_weaker}
 use Rattle.std.proofs.Math.Seq.{take-length}
 use Rattle.std.specs.Io.KnownBytes.{Appends}
-use Rattle.rec_base.specs.Known.{AppendsFront, printed_line}
+use Rattle.rec_base.specs.Known.{printed_line}
 use Rattle.report_model.specs.Placed.{end_line, printed_lines}
-use Rattle.record_cli.specs.Show.{front_lines, show_lines}
+use Rattle.record_cli.specs.Show.{front_lines}
 use Rattle.record_cli.proofs.Errors.{handed}
 use Rattle.record_cli.proofs.Recordings.{appends_from, appends_front_from, rose_from}
 use Rattle.record_cli.proofs.Inputs.{rose_later}
@@ -38,7 +38,7 @@ returns-clause-shown g c =
       c.in_ok-file.ensures.text.1,
       record { chunks = c.in-Some.chunks.now; whole = sym c.bytes.ensures ∙ c.in-Some.ensures; stand = k.1; shown = k.2 },
       said_end _ _ _ (front_lines k.0) (end_line (length b) (length k.0)) (appends_from _ _ _ _ _ c.in_ok-file.ensures.printed refl k.4)
-        (appends_from _ _ _ _ _ refl (ap printed_line line) said),
+          (appends_from _ _ _ _ _ refl (ap printed_line line) said),
     )) c.say_end.ensures.ok
 
 pub returns-clause-say : goal.returns-clause-say
@@ -55,7 +55,7 @@ returns-clause-say g c = λ e.
       c.in_ok-file.ensures.text.1,
       record { chunks = c.in-Some.chunks.now; whole = sym c.bytes.ensures ∙ c.in-Some.ensures; stand = k.1; shown = k.2 },
       front_end _ _ _ (front_lines k.0) (end_line (length b) (length k.0)) (appends_from _ _ _ _ _ c.in_ok-file.ensures.printed refl k.4)
-        (appends_front_from _ _ _ _ _ refl (ap printed_line line) said.0),
+          (appends_front_from _ _ _ _ _ refl (ap printed_line line) said.0),
       rose_from _ _ _ c.in_ok-file.ensures.print_faults (rose_later _ _ _ c.show_chunks.ensures.later said.1),
     )
 

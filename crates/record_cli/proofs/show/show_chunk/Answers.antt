@@ -1,4 +1,4 @@
-use Rattle.std.proofs.Common.{◌≡◌, ℕ, List, length, take, refl, sym, subst, inr}
+use Rattle.std.proofs.Common.{ℕ, List, length, refl, sym, subst, inr}
 use Rattle.std.proofs.Math.Seq.{take-length}
 use Rattle.std.specs.Io.KnownBytes.{Appends}
 use Rattle.report_model.specs.Lines.{chunk_lines}

@@ -1,4 +1,4 @@
-use Rattle.std.proofs.Common.{rules, ◌≡◌, ◌≤◌, ◌+◌, ◌-◌, ◌<◌, ℕ, List, length, drop, take, Option, sym, subst, inl, inr}
+use Rattle.std.proofs.Common.{rules, ◌+◌, ◌<◌, ℕ, List, length, drop, Option, sym, subst, inl, inr}
 use Rattle.std.proofs.lemmas.List.{take_rest}
 use Rattle.std.proofs.Math.Seq.{take-length}
 use Rattle.std.specs.Io.KnownBytes.{Appends}
@@ -6,7 +6,6 @@ use Rattle.chunk_grammar.specs.Chunk.{Context}
 use Rattle.report_model.specs.Placed.{printed_lines}
 use Rattle.record_cli.specs.Show.{IsStop, front_lines}
 use Rattle.record_cli.proofs.Errors.{handed}
-use Rattle.record_cli.proofs.Recordings.{rose_from}
 use Rattle.record_cli.proofs.Inputs.{rose_later}
 use Rattle.record_cli.proofs.Shown.{HasShown, one_more, front_of_more, some_of_more, all, stand_all, shown_all}
 use Rattle.record_cli.proofs.show.show_chunks.Goals as goal

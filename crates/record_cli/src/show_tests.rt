@@ -1,0 +1,183 @@
+use crate::file::file_main;
+use crate::input::INT16_DOCUMENT;
+use crate::tests::{FOOTERS, Fails, HEADERS, NONE, RECORD, SAMPLES, feed_of, file, record_on};
+use rec_base::{Blob, MemDock, MemSource, Name, Piece, Word};
+use std::alloc::Global;
+use std::test::Fail;
+
+const SHOW: &[&str] = &["show", "f"];
+
+// What is said of the headers, and of all chunks of the file of three samples.
+const HEADER_LINES: &str =
+    "4 file-header bytes 56\n64 stream-header id 0 channels 3 format int64 bytes 176\n248 stream-header id 1 channels 1 format int16 bytes 83\n";
+
+const CHUNK_LINES: &str =
+    "4 file-header bytes 56\n64 stream-header id 0 channels 3 format int64 bytes 176\n248 stream-header id 1 channels 1 format int16 bytes 83\n339 samples id 1 count 3\n  none 1\n  none 2\n  none 3\n358 stream-footer id 0 bytes 86\n452 stream-footer id 1 bytes 86\n";
+
+const LAST_LINE: &str = "end 546 chunks 6\n";
+
+fn joined(alloc: Global, parts: &[&[u8]]) -> Result<Vec<u8>, Fail> {
+    let mut bytes = Vec::new(alloc);
+    for part in parts {
+        bytes.extend_from_slice(part)?;
+    }
+    Ok(bytes)
+}
+
+// Shows on a dock whose file `f` has these bytes, and whose file `torn` can't be read to its end.
+fn show_on(
+    alloc: Global,
+    words: &[&str],
+    bytes: &[u8],
+    fails: Fails,
+) -> Result<(u8, MemDock), Fail> {
+    let front = Piece::Give(Blob::from_bytes(alloc, HEADERS)?);
+    let torn = Name::File(Word::from_bytes(alloc, b"torn")?);
+    let files = vec![in alloc;
+        file(alloc, "f", bytes)?,
+        (torn, MemSource::new(vec![in alloc; front, Piece::Fail]?)),
+    ]?;
+    let mut dock = MemDock::new(
+        alloc,
+        files,
+        4096,
+        vec![in alloc; fails.open]?,
+        vec![in alloc; fails.write]?,
+        vec![in alloc; fails.say]?,
+    )?;
+    let mut command = Vec::new(alloc);
+    for word in words {
+        command.push(Word::from_bytes(alloc, word.as_bytes())?)?;
+    }
+    let status = file_main(alloc, &command, &mut dock);
+    Ok((status, dock))
+}
+
+// Nothing was created or written.
+fn is_untouched(dock: &MemDock) -> bool {
+    dock.target().is_empty() && dock.held().is_empty()
+}
+
+#[test]
+fn a_file_is_shown_up_to_where_it_is_cut(rt: HostRuntime) -> Result<(), Fail> {
+    let whole = joined(rt.alloc(), &[HEADERS, SAMPLES, FOOTERS])?;
+    for (cut, status, lines, last) in [
+        (546, 0, CHUNK_LINES, LAST_LINE),
+        (357, 10, HEADER_LINES, "fault 10\n"),
+        (339, 0, HEADER_LINES, "end 339 chunks 3\n"),
+        (4, 0, "", "end 4 chunks 0\n"),
+        (3, 3, "", "fault 3\n"),
+        (0, 3, "", "fault 3\n"),
+    ] {
+        let bytes = whole.get(..cut).unwrap_or(&[]);
+        assert_eq!(rt; bytes.len(), cut);
+        let (answer, dock) = show_on(rt.alloc(), SHOW, bytes, NONE)?;
+        assert_eq!(rt; answer, status, "{cut} bytes");
+        let want = joined(rt.alloc(), &[lines.as_bytes(), last.as_bytes()])?;
+        assert_eq!(rt; dock.printed(), want.as_slice(), "{cut} bytes");
+        assert!(rt; is_untouched(&dock));
+    }
+    Ok(())
+}
+
+#[test]
+fn a_length_may_be_wide(rt: HostRuntime) -> Result<(), Fail> {
+    // All that stands behind the first length.
+    let behind = HEADERS.get(6..).unwrap_or(&[]);
+    for (front, printed) in [
+        (
+            b"XDF:\x04\x3A\0\0\0".as_slice(),
+            "4 file-header bytes 56\n67 stream-header id 0 channels 3 format int64 bytes 176\n251 stream-header id 1 channels 1 format int16 bytes 83\nend 342 chunks 3\n",
+        ),
+        (
+            b"XDF:\x08\x3A\0\0\0\0\0\0\0".as_slice(),
+            "4 file-header bytes 56\n71 stream-header id 0 channels 3 format int64 bytes 176\n255 stream-header id 1 channels 1 format int16 bytes 83\nend 346 chunks 3\n",
+        ),
+    ] {
+        let bytes = joined(rt.alloc(), &[front, behind])?;
+        let (answer, dock) = show_on(rt.alloc(), SHOW, &bytes, NONE)?;
+        assert_eq!(rt; answer, 0);
+        assert_eq!(rt; dock.printed(), printed.as_bytes());
+        assert!(rt; is_untouched(&dock));
+    }
+    Ok(())
+}
+
+#[test]
+fn a_place_of_another_form_ends_the_lines(rt: HostRuntime) -> Result<(), Fail> {
+    let want = joined(rt.alloc(), &[HEADER_LINES.as_bytes(), b"fault 10\n"])?;
+    for (place, behind) in [
+        (
+            "a boundary",
+            b"\x01\x12\x05\0\x43\xA5\x46\xDC\xCB\xF5\x41\x0F\xB3\x0E\xD5\x46\x73\x83\xCB\xE4".as_slice(),
+        ),
+        (
+            "another document",
+            b"\x01\x59\x02\0\x02\0\0\0<info><channel_count>2</channel_count><channel_format>int16</channel_format></info>".as_slice(),
+        ),
+        ("no width", b"\x02\x02\0\x01\0".as_slice()),
+    ] {
+        let bytes = joined(rt.alloc(), &[HEADERS, behind, FOOTERS])?;
+        let (answer, dock) = show_on(rt.alloc(), SHOW, &bytes, NONE)?;
+        assert_eq!(rt; answer, 10, "{place}");
+        assert_eq!(rt; dock.printed(), want.as_slice(), "{place}");
+        assert!(rt; is_untouched(&dock));
+    }
+    Ok(())
+}
+
+#[test]
+fn the_most_bytes_are_1048576(rt: HostRuntime) -> Result<(), Fail> {
+    // Zeros are no magic, but the length comes first.
+    for (size, status, printed) in [
+        (1_048_576, 3, b"fault 3\n".as_slice()),
+        (1_048_577, 10, b"fault 10\n".as_slice()),
+    ] {
+        let bytes = vec![in rt.alloc(); 0u8; size]?;
+        let (answer, dock) = show_on(rt.alloc(), SHOW, &bytes, NONE)?;
+        assert_eq!(rt; answer, status, "{size} bytes");
+        assert_eq!(rt; dock.printed(), printed, "{size} bytes");
+        assert!(rt; is_untouched(&dock));
+    }
+    Ok(())
+}
+
+#[test]
+fn each_fault_of_a_show_has_its_status_and_line(rt: HostRuntime) -> Result<(), Fail> {
+    let whole = joined(rt.alloc(), &[HEADERS, SAMPLES, FOOTERS])?;
+    let opening = Fails { open: 1, ..NONE };
+    let first_say = Fails { say: 1, ..NONE };
+    let second_say = Fails { say: 2, ..NONE };
+    let last_say = Fails { say: 10, ..NONE };
+    for (words, fails, status, printed) in [
+        ([].as_slice(), NONE, 2, "fault 2 usage 1\n"),
+        (["frob"].as_slice(), NONE, 2, "fault 2 usage 2\n"),
+        (["show"].as_slice(), NONE, 2, "fault 2 usage 3\n"),
+        (["show", "a", "b"].as_slice(), NONE, 2, "fault 2 usage 3\n"),
+        (["show", "x"].as_slice(), NONE, 4, "fault 4\n"),
+        (["show", "torn"].as_slice(), NONE, 4, "fault 4\n"),
+        (SHOW, opening, 4, "fault 4\n"),
+        (SHOW, first_say, 8, ""),
+        (SHOW, second_say, 8, "4 file-header bytes 56\n"),
+        (SHOW, last_say, 8, CHUNK_LINES),
+    ] {
+        let (answer, dock) = show_on(rt.alloc(), words, &whole, fails)?;
+        assert_eq!(rt; answer, status);
+        assert_eq!(rt; dock.printed(), printed.as_bytes());
+        assert!(rt; is_untouched(&dock));
+    }
+    Ok(())
+}
+
+#[test]
+fn what_was_recorded_is_shown(rt: HostRuntime) -> Result<(), Fail> {
+    let feed = feed_of(rt.alloc(), 3)?;
+    let (recorded, first) = record_on(rt.alloc(), RECORD, INT16_DOCUMENT, &feed, NONE)?;
+    assert_eq!(rt; recorded, 0);
+    let (answer, dock) = show_on(rt.alloc(), SHOW, first.held(), NONE)?;
+    assert_eq!(rt; answer, 0);
+    let want = joined(rt.alloc(), &[CHUNK_LINES.as_bytes(), LAST_LINE.as_bytes()])?;
+    assert_eq!(rt; dock.printed(), want.as_slice());
+    assert!(rt; is_untouched(&dock));
+    Ok(())
+}
