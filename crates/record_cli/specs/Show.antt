@@ -1,5 +1,5 @@
 -- What `show` says of a file. This project's own.
-use Rattle.std.specs.Prelude.{◌≡◌, ◌≢◌, ◌⊎◌, ℕ, ◌<◌, ◌≤◌, Bool, ◌==◌, ◌||◌, ⊤, List, [], ◌∷◌, ◌++◌, length, map, Option, Result, Ok, Err, cond, codes}
+use Rattle.std.specs.Prelude.{◌≡◌, ◌≢◌, ◌⊎◌, ℕ, Bool, ◌==◌, ◌||◌, ⊤, List, [], ◌∷◌, ◌++◌, length, map, Option, Result, Ok, Err, cond, codes}
 use Rattle.std.specs.Fmt.{decimal}
 use Rattle.std.specs.List.{AllByRecursion}
 use Rattle.rec_base.specs.declared.name.Name.TheVariants.{File}

@@ -13,7 +13,7 @@ returns-in-Err-Usage-clause-fault_line g c = λ _.
     let said : List ℕ = codes "fault 2 usage " ++ decimal (file_usage_of (file_words c.args.words.now)) in
     let number : ℕ → List ℕ = λ n. codes "fault 2 usage " ++ decimal n in
     says_first _ _ _ _ _ _ c.usage_line.result.now said (unsaid c.in-Err-Usage.field-0 c.in-Err-Usage.why c.in-Err-Usage.field-0-is c.in-Err-Usage.ensures.none_said)
-      (c.usage_line.ensures ∙ ap number (file_usage_is c.args.words.now c.in-Err-Usage.why (c.in-Err-Usage.ensures.usage c.in-Err-Usage.why is))) c.say_fault.ensures.line
+    (c.usage_line.ensures ∙ ap number (file_usage_is c.args.words.now c.in-Err-Usage.why (c.in-Err-Usage.ensures.usage c.in-Err-Usage.why is))) c.say_fault.ensures.line
 
 pub returns-in-Err-TooLong-clause-other_form_alone : goal.returns-in-Err-TooLong-clause-other_form_alone
 returns-in-Err-TooLong-clause-other_form_alone g c = λ _ texts told.
