@@ -53,9 +53,30 @@ fn show_on(
     Ok((status, dock))
 }
 
-// Nothing was created or written.
-fn is_untouched(dock: &MemDock) -> bool {
-    dock.target().is_empty() && dock.held().is_empty()
+// Whether the bytes are these parts, one behind the other.
+fn is_joined(bytes: &[u8], parts: &[&str]) -> bool {
+    let mut rest = bytes;
+    for part in parts {
+        match rest.strip_prefix(part.as_bytes()) {
+            Some(behind) => rest = behind,
+            None => return false,
+        }
+    }
+    rest.is_empty()
+}
+
+// Whether a show of these bytes has the status, says these lines, and creates and writes nothing.
+fn shows(
+    alloc: Global,
+    words: &[&str],
+    bytes: &[u8],
+    fails: Fails,
+    status: u8,
+    printed: &[&str],
+) -> Result<bool, Fail> {
+    let (answer, dock) = show_on(alloc, words, bytes, fails)?;
+    let untouched = dock.target().is_empty() && dock.held().is_empty();
+    Ok(untouched && answer == status && is_joined(dock.printed(), printed))
 }
 
 #[test]
@@ -70,12 +91,8 @@ fn a_file_is_shown_up_to_where_it_is_cut(rt: HostRuntime) -> Result<(), Fail> {
         (0, 3, "", "fault 3\n"),
     ] {
         let bytes = whole.get(..cut).unwrap_or(&[]);
-        assert_eq!(rt; bytes.len(), cut);
-        let (answer, dock) = show_on(rt.alloc(), SHOW, bytes, NONE)?;
-        assert_eq!(rt; answer, status, "{cut} bytes");
-        let want = joined(rt.alloc(), &[lines.as_bytes(), last.as_bytes()])?;
-        assert_eq!(rt; dock.printed(), want.as_slice(), "{cut} bytes");
-        assert!(rt; is_untouched(&dock));
+        let as_told = shows(rt.alloc(), SHOW, bytes, NONE, status, &[lines, last])?;
+        assert!(rt; as_told && bytes.len() == cut, "{cut} bytes");
     }
     Ok(())
 }
@@ -95,17 +112,13 @@ fn a_length_may_be_wide(rt: HostRuntime) -> Result<(), Fail> {
         ),
     ] {
         let bytes = joined(rt.alloc(), &[front, behind])?;
-        let (answer, dock) = show_on(rt.alloc(), SHOW, &bytes, NONE)?;
-        assert_eq!(rt; answer, 0);
-        assert_eq!(rt; dock.printed(), printed.as_bytes());
-        assert!(rt; is_untouched(&dock));
+        assert!(rt; shows(rt.alloc(), SHOW, &bytes, NONE, 0, &[printed])?);
     }
     Ok(())
 }
 
 #[test]
 fn a_place_of_another_form_ends_the_lines(rt: HostRuntime) -> Result<(), Fail> {
-    let want = joined(rt.alloc(), &[HEADER_LINES.as_bytes(), b"fault 10\n"])?;
     for (place, behind) in [
         (
             "a boundary",
@@ -118,10 +131,11 @@ fn a_place_of_another_form_ends_the_lines(rt: HostRuntime) -> Result<(), Fail> {
         ("no width", b"\x02\x02\0\x01\0".as_slice()),
     ] {
         let bytes = joined(rt.alloc(), &[HEADERS, behind, FOOTERS])?;
-        let (answer, dock) = show_on(rt.alloc(), SHOW, &bytes, NONE)?;
-        assert_eq!(rt; answer, 10, "{place}");
-        assert_eq!(rt; dock.printed(), want.as_slice(), "{place}");
-        assert!(rt; is_untouched(&dock));
+        let lines = [HEADER_LINES, "fault 10\n"];
+        assert!(rt;
+            shows(rt.alloc(), SHOW, &bytes, NONE, 10, &lines)?,
+            "{place}"
+        );
     }
     Ok(())
 }
@@ -129,15 +143,10 @@ fn a_place_of_another_form_ends_the_lines(rt: HostRuntime) -> Result<(), Fail> {
 #[test]
 fn the_most_bytes_are_1048576(rt: HostRuntime) -> Result<(), Fail> {
     // Zeros are no magic, but the length comes first.
-    for (size, status, printed) in [
-        (1_048_576, 3, b"fault 3\n".as_slice()),
-        (1_048_577, 10, b"fault 10\n".as_slice()),
-    ] {
+    for (size, status, printed) in [(1_048_576, 3, "fault 3\n"), (1_048_577, 10, "fault 10\n")] {
         let bytes = vec![in rt.alloc(); 0u8; size]?;
-        let (answer, dock) = show_on(rt.alloc(), SHOW, &bytes, NONE)?;
-        assert_eq!(rt; answer, status, "{size} bytes");
-        assert_eq!(rt; dock.printed(), printed, "{size} bytes");
-        assert!(rt; is_untouched(&dock));
+        let as_told = shows(rt.alloc(), SHOW, &bytes, NONE, status, &[printed])?;
+        assert!(rt; as_told, "{size} bytes");
     }
     Ok(())
 }
@@ -161,10 +170,7 @@ fn each_fault_of_a_show_has_its_status_and_line(rt: HostRuntime) -> Result<(), F
         (SHOW, second_say, 8, "4 file-header bytes 56\n"),
         (SHOW, last_say, 8, CHUNK_LINES),
     ] {
-        let (answer, dock) = show_on(rt.alloc(), words, &whole, fails)?;
-        assert_eq!(rt; answer, status);
-        assert_eq!(rt; dock.printed(), printed.as_bytes());
-        assert!(rt; is_untouched(&dock));
+        assert!(rt; shows(rt.alloc(), words, &whole, fails, status, &[printed])?);
     }
     Ok(())
 }
@@ -174,10 +180,7 @@ fn what_was_recorded_is_shown(rt: HostRuntime) -> Result<(), Fail> {
     let feed = feed_of(rt.alloc(), 3)?;
     let (recorded, first) = record_on(rt.alloc(), RECORD, INT16_DOCUMENT, &feed, NONE)?;
     assert_eq!(rt; recorded, 0);
-    let (answer, dock) = show_on(rt.alloc(), SHOW, first.held(), NONE)?;
-    assert_eq!(rt; answer, 0);
-    let want = joined(rt.alloc(), &[CHUNK_LINES.as_bytes(), LAST_LINE.as_bytes()])?;
-    assert_eq!(rt; dock.printed(), want.as_slice());
-    assert!(rt; is_untouched(&dock));
+    let lines = [CHUNK_LINES, LAST_LINE];
+    assert!(rt; shows(rt.alloc(), SHOW, first.held(), NONE, 0, &lines)?);
     Ok(())
 }

@@ -100,25 +100,39 @@ fn three_samples_are_recorded(rt: HostRuntime) -> Result<(), Fail> {
     Ok(())
 }
 
+// Whether a recording has the status and says these lines, and whether it creates the output then.
+fn records(
+    alloc: Global,
+    words: &[&str],
+    doc: &[u8],
+    feed: &[u8],
+    fails: Fails,
+    (status, printed, creates): (u8, &str, bool),
+) -> Result<bool, Fail> {
+    let (answer, dock) = record_on(alloc, words, doc, feed, fails)?;
+    let created = dock.target() == b"out".as_slice();
+    Ok(answer == status && dock.printed() == printed.as_bytes() && created == creates)
+}
+
 #[test]
 fn the_most_samples_are_512(rt: HostRuntime) -> Result<(), Fail> {
     for (samples, status, printed) in [
         (
             0,
             0,
-            b"feed 1 received 0 kept 0 lost 0 end whole\nrecorded bytes 527 chunks 5\n".as_slice(),
+            "feed 1 received 0 kept 0 lost 0 end whole\nrecorded bytes 527 chunks 5\n",
         ),
         (
             512,
             0,
-            b"feed 1 received 512 kept 512 lost 0 end whole\nrecorded bytes 2081 chunks 6\n".as_slice(),
+            "feed 1 received 512 kept 512 lost 0 end whole\nrecorded bytes 2081 chunks 6\n",
         ),
-        (513, 10, b"fault 10\n".as_slice()),
+        (513, 10, "fault 10\n"),
     ] {
         let feed = feed_of(rt.alloc(), samples)?;
-        let (answer, dock) = record_on(rt.alloc(), RECORD, INT16_DOCUMENT, &feed, NONE)?;
-        assert_eq!(rt; answer, status, "{samples} samples");
-        assert_eq!(rt; dock.printed(), printed, "{samples} samples");
+        let want = (status, printed, status == 0);
+        let as_told = records(rt.alloc(), RECORD, INT16_DOCUMENT, &feed, NONE, want)?;
+        assert!(rt; as_told, "{samples} samples");
     }
     Ok(())
 }
@@ -128,22 +142,18 @@ fn a_document_and_a_feed_of_another_form_are_refused(rt: HostRuntime) -> Result<
     let whole = feed_of(rt.alloc(), 3)?;
     let longer =
         b"<info><channel_count>1</channel_count><channel_format>int16</channel_format></info>\n";
-    for (doc, cut, status) in [
-        (INT16_DOCUMENT, 119, 0),
-        (INT16_DOCUMENT, 120, 10),
-        (INT16_DOCUMENT, 118, 10),
-        (INT16_DOCUMENT, 0, 10),
-        (longer.as_slice(), 128, 10),
+    for (doc, cut) in [
+        (INT16_DOCUMENT, 120),
+        (INT16_DOCUMENT, 118),
+        (INT16_DOCUMENT, 0),
+        (longer.as_slice(), 128),
     ] {
         let feed = whole.get(..cut).unwrap_or(&[]);
-        let (answer, dock) = record_on(rt.alloc(), RECORD, doc, feed, NONE)?;
-        assert_eq!(rt; answer, status, "{cut} bytes");
-        if status == 10 {
-            assert_eq!(rt; dock.printed(), b"fault 10\n".as_slice());
-            assert!(rt; dock.target().is_empty());
-        } else {
-            assert_eq!(rt; dock.held().len(), 527);
-        }
+        let want = (10, "fault 10\n", false);
+        assert!(rt;
+            records(rt.alloc(), RECORD, doc, feed, NONE, want)?,
+            "{cut} bytes"
+        );
     }
     Ok(())
 }
@@ -155,39 +165,30 @@ fn each_fault_has_its_status_and_line(rt: HostRuntime) -> Result<(), Fail> {
     let creation = Fails { open: 4, ..NONE };
     let first_write = Fails { write: 1, ..NONE };
     let first_say = Fails { say: 1, ..NONE };
-    for (words, fails, status, printed, created) in [
-        ([].as_slice(), NONE, 2, "fault 2 usage 1\n", false),
-        (["frob"].as_slice(), NONE, 2, "fault 2 usage 2\n", false),
+    for (words, fails, want) in [
+        ([].as_slice(), NONE, (2, "fault 2 usage 1\n", false)),
+        (["frob"].as_slice(), NONE, (2, "fault 2 usage 2\n", false)),
         (
             ["record", "p"].as_slice(),
             NONE,
-            2,
-            "fault 2 usage 3\n",
-            false,
+            (2, "fault 2 usage 3\n", false),
         ),
         (
             ["record", "p", "p"].as_slice(),
             NONE,
-            2,
-            "fault 2 usage 5\n",
-            false,
+            (2, "fault 2 usage 5\n", false),
         ),
         (
             ["record", "x", "out"].as_slice(),
             NONE,
-            4,
-            "fault 4\n",
-            false,
+            (4, "fault 4\n", false),
         ),
-        (RECORD, first_open, 4, "fault 4\n", false),
-        (RECORD, creation, 4, "fault 4\n", false),
-        (RECORD, first_write, 5, "fault 5\n", true),
-        (RECORD, first_say, 8, "", true),
+        (RECORD, first_open, (4, "fault 4\n", false)),
+        (RECORD, creation, (4, "fault 4\n", false)),
+        (RECORD, first_write, (5, "fault 5\n", true)),
+        (RECORD, first_say, (8, "", true)),
     ] {
-        let (answer, dock) = record_on(rt.alloc(), words, INT16_DOCUMENT, &feed, fails)?;
-        assert_eq!(rt; answer, status);
-        assert_eq!(rt; dock.printed(), printed.as_bytes());
-        assert_eq!(rt; dock.target().is_empty(), !created);
+        assert!(rt; records(rt.alloc(), words, INT16_DOCUMENT, &feed, fails, want)?);
     }
     Ok(())
 }
