@@ -1,0 +1,6 @@
+pub mod Digits
+pub mod Blanks
+pub mod FirstLine
+pub mod Values
+pub mod Walk
+pub mod Longer
