@@ -1,4 +1,5 @@
 use super::*;
+use xdf_model::Format;
 
 const LITTLE_ENDIAN_REPLY: &str =
     "LSL/110 200 OK\r\nUID: u1\r\nByte-Order: 1234\r\nSuppress-Subnormals: 0\r\nData-Protocol-Version: 110\r\n\r\n";
@@ -135,4 +136,25 @@ fn reasons_are_numbered_from_one(rt: HostRuntime) {
     assert_eq!(rt; why_number(ReplyWhy::Malformed), 1);
     assert_eq!(rt; why_number(ReplyWhy::PeerError(503)), 4);
     assert_eq!(rt; why_number(ReplyWhy::TooManyLines), 12);
+}
+
+#[test]
+fn a_request_tells_the_uid_and_the_size_of_a_value(rt: HostRuntime) {
+    let want =
+        "LSL:streamfeed/110 u1\r\nNative-Byte-Order: 1234\r\nHas-IEEE754-Floats: 1\r\nSupports-Subnormals: 1\r\nValue-Size: 2\r\nData-Protocol-Version: 110\r\nMax-Buffer-Length: 36000\r\nMax-Chunk-Length: 0\r\n\r\n";
+    let mut out = Vec::new(rt.alloc());
+    let shape = Shape {
+        count: 1,
+        format: Format::Int16,
+    };
+    request_text(b"u1", &shape, &mut out).expect(&rt, "memory");
+    assert_eq!(rt; out.len(), 187);
+    assert_eq!(rt; out.as_slice(), want.as_bytes());
+    let shape = Shape {
+        count: 1,
+        format: Format::Text,
+    };
+    request_text(b"", &shape, &mut out).expect(&rt, "memory");
+    assert_eq!(rt; out.len(), 372);
+    assert_eq!(rt; &out[280..295], b"Value-Size: 0\r\n".as_slice());
 }

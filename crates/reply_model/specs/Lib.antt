@@ -1,3 +1,4 @@
 pub mod Lines
 pub mod Header
 pub mod Reply
+pub mod Request

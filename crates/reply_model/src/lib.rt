@@ -1,8 +1,10 @@
-//! What an outlet's reply to `streamfeed` means, apart from any code (LSL, data protocol 1.10).
+//! What a request for a feed and an outlet's reply to it mean, apart from any code (LSL
+//! `streamfeed`, data protocol 1.10).
 //!
 //! The definitions stand in `specs/`: the lines of some bytes (`Lines`), what a status line and a
-//! header line say (`Header`), and the reply or the first refusal (`Reply`). Here is also the plain
-//! data that the definitions and the code share. This crate does nothing.
+//! header line say (`Header`), the reply or the first refusal (`Reply`), and the text of the request
+//! (`Request`). Here is also the plain data that the definitions and the code share. This crate does
+//! nothing.
 #![tactic(auto)]
 
 use feed_model::Order;
