@@ -152,8 +152,9 @@ fn read_agreed(uid: Option<&[u8]>, empty: usize, bytes: &[u8]) -> Result<Order, 
     Ok(order)
 }
 
-/// What some bytes are as the front of an outlet's reply (LSL, reply to `streamfeed`; the order of
-/// the tests, their numbers and places are this project's own).
+/// What some bytes are as the front of an outlet's reply (LSL, reply to `streamfeed`). How a header
+/// line is divided, which of them count, the limits and the refusals with their order and places are
+/// this project's own.
 ///
 /// A line ends at its first CR LF; a lone CR or LF is a byte of the line. The first line is the
 /// status line, and the reply ends with the first empty line behind it. Lines are judged one after

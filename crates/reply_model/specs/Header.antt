@@ -1,4 +1,4 @@
--- What a status line and a header line say (LSL, reply to `streamfeed`).
+-- What a status line and a header line say (LSL, reply to `streamfeed`; how a header line is divided is this project's own).
 use Rattle.std.specs.Prelude.{ℕ, ◌+◌, ◌-◌, ◌/◌, ◌==◌, ◌||◌, ◌&&◌, Bool, not, List, [], ◌∷◌, length, take, drop, Option, Some, None, Result, Ok, Err, nat_eq, nat_lt, if◌then◌else◌, codes, map, take_while}
 use Rattle.std.specs.List.{starts_with, prefix_len, suffix_len}
 use Rattle.std.specs.Cmp.Lexicographic.{pointwise}
@@ -8,10 +8,11 @@ use Rattle.xdf_model.specs.Reading.{◌>>=◌}
 use Rattle.reply_model.specs.declared.ReplyWhy.{ReplyWhy}
 use Rattle.reply_model.specs.declared.ReplyWhy.TheVariants.{Malformed, VersionTooNew, NotFound, PeerError, Redirect}
 
--- what stands behind a text at the front; without it the line is malformed
+-- what stands behind a text at the front; without it the line is malformed (this project's own)
 abbrev pub behind : List ℕ → List ℕ → Result (List ℕ) ReplyWhy
 behind front b = if starts_with nat_eq b front then Ok (drop (length front) b) else Err Malformed
 
+-- the decimal digits at the front (this project's own)
 abbrev pub digits_front : List ℕ → List ℕ
 digits_front b = take_while is_ascii_digit b
 
@@ -46,25 +47,25 @@ accepts_status text = do
   phrase ← reason_phrase code.1
   accepts version.0 code.0
 
--- the same bytes
+-- whether two texts are the same bytes (this project's own)
 abbrev pub same_bytes : List ℕ → List ℕ → Bool
 same_bytes a b = pointwise nat_eq a b
 
--- a space or a tab
+-- a space or a tab (this project's own)
 abbrev pub is_blank : ℕ → Bool
 is_blank x = x == 32 || x == 9
 
--- without blanks at the front and at the end
+-- a text without blanks at the front and at the end (this project's own)
 abbrev pub trimmed : List ℕ → List ℕ
 trimmed text =
     let t = drop (prefix_len is_blank text) text in
     take (length t - suffix_len is_blank t) t
 
--- how many bytes stand before the first such byte, or in all
+-- how many bytes stand before the first such byte, or in all where there is none (this project's own)
 abbrev pub length_before : ℕ → List ℕ → ℕ
 length_before byte text = prefix_len (λ x. not (x == byte)) text
 
--- what stands before the first colon (LSL, reply to `streamfeed`)
+-- what stands before the first colon (this project's own)
 abbrev pub name_in : List ℕ → List ℕ
 name_in text = trimmed (take (length_before 58 text) text)
 
@@ -74,7 +75,7 @@ value_in text =
     let t = drop (length_before 58 text + 1) text in
     trimmed (take (length_before 59 t) t)
 
--- the value of a line with a name, whose case doesn't count; a line without a colon has no name (LSL, reply to `streamfeed`)
+-- the value of a line with a name, whose case doesn't count; a line without a colon has no name (this project's own)
 unfoldable pub value_of : List ℕ → List ℕ → Option (List ℕ)
 value_of name text =
     if nat_lt (length_before 58 text) (length text)

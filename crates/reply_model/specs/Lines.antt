@@ -11,12 +11,12 @@ pub data Lines : Type 0 where
 abbrev pub line_end : List ℕ
 line_end = 13 ∷ 10 ∷ []
 
--- one more byte at the front of the first line
+-- one more byte at the front of the first line (this project's own)
 abbrev pub with_byte : ℕ → Lines → Lines
 with_byte x (rest b) = rest (x ∷ b)
 with_byte x (line text more) = line (x ∷ text) more
 
--- each line ends at its first CR LF; a lone CR or LF is a byte of the line (LSL, reply to `streamfeed`)
+-- each line ends at its first CR LF (LSL, reply to `streamfeed`); a lone CR or LF is a byte of the line (this project's own)
 unfoldable pub lines_in : List ℕ → Lines
 lines_in [] = rest []
 lines_in (x ∷ []) = rest (x ∷ [])

@@ -4,7 +4,7 @@ use Rattle.xdf_model.specs.declared.types.Shape.{Shape}
 use Rattle.xdf_model.specs.Sample.{size_of}
 use Rattle.reply_model.specs.Lines.{line_end}
 
--- a line with its end
+-- a line with its end (LSL, `streamfeed` with data protocol 1.10)
 abbrev pub ended : List ℕ → List ℕ
 ended text = text ++ line_end
 
