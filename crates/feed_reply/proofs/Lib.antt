@@ -1,0 +1,7 @@
+pub mod Digits
+pub mod Blanks
+pub mod FirstLine
+pub mod Values
+pub mod Pieces
+pub mod Walk
+pub mod Longer
