@@ -11,8 +11,8 @@ use Rattle.rec_base.specs.Known.{AppendsFront, printed_line}
 use Rattle.chunk_grammar.specs.declared.chunk.Chunk.{Chunk}
 use Rattle.chunk_grammar.specs.Chunk.{Context, context_after, IsChunkText}
 use Rattle.report_model.specs.Lines.{chunk_lines}
-use Rattle.report_model.specs.Placed.{Placed, Stand, context_behind, place_behind, placed_lines, printed_lines}
-use Rattle.record_cli.specs.Show.{IsShown, front_lines}
+use Rattle.report_model.specs.Placed.{Placed, Stand, context_behind, place_behind, placed_lines, printed_lines, end_line}
+use Rattle.record_cli.specs.Show.{IsShown, front_lines, lines_up_to}
 use Rattle.record_cli.proofs.Fronts.{front_behind, front_longer}
 
 pub stand_more : (ctx : Context) (placed : List Placed) (b rest u after : List ℕ) (p : Placed) → Stand ctx placed b rest
@@ -122,3 +122,9 @@ pub front_before : (a b : Option (List ℕ)) (lines : List (List ℕ)) (line : L
 front_before a b lines line front =
     let P : List ℕ → Type 0 = λ t. AppendsFront a b t in
     subst P (sym (printed_end lines line)) (front_longer a b _ _ front)
+
+-- where a line of the chunks failed, it doesn't matter what is left
+pub front_up_to : (a b : Option (List ℕ)) (bytes : List ℕ) (placed : List Placed) (rest : List ℕ) → AppendsFront a b (printed_lines (front_lines placed))
+    → AppendsFront a b (printed_lines (lines_up_to bytes placed rest))
+front_up_to a b bytes placed [] front = front_before a b (front_lines placed) (end_line (length bytes) (length placed)) front
+front_up_to a b bytes placed (x ∷ rest) front = front

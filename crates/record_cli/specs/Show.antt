@@ -55,6 +55,11 @@ front_lines placed = placed_lines [] 4 placed
 abbrev pub show_lines : List ℕ → List Placed → List (List ℕ)
 show_lines b placed = front_lines placed ++ end_line (length b) (length placed) ∷ []
 
+-- the lines up to a place: with the last one only where nothing is left behind it
+abbrev pub lines_up_to : List ℕ → List Placed → List ℕ → List (List ℕ)
+lines_up_to b placed [] = show_lines b placed
+lines_up_to b placed (x ∷ rest) = front_lines placed
+
 -- a file that has a place other than its end at which no chunk stands that is shown
 pub record IsOtherPlace (b : List ℕ) (placed : List Placed) : Type 0 where
   pub rest : List ℕ

@@ -11,7 +11,7 @@ ghost use Rattle.chunk_grammar.specs.Chunk.{magic};
 ghost use Rattle.report_model.specs.Placed.{Placed, printed_lines};
 ghost use Rattle.record_cli.specs.Words.{file_words};
 ghost use Rattle.record_cli.specs.Said.{SaysFault, SaysBehind};
-ghost use Rattle.record_cli.specs.Show.{IsShowOf, IsShownFront, IsOtherPlace, show_limit, front_lines, show_lines, is_show_status, says_one_line, show_fault_text};
+ghost use Rattle.record_cli.specs.Show.{IsShowOf, IsShownFront, IsOtherPlace, show_limit, front_lines, lines_up_to, show_lines, is_show_status, says_one_line, show_fault_text};
 
 use crate::bytes::behind;
 use crate::output::{say_fault, usage_line};
@@ -33,7 +33,7 @@ fn show<D: Dock>(alloc: Global, words: &[Word], dock: &mut D) -> Result<(), Show
         ⊎ ((name : List ℕ) × (first : D.Source) × (last : D.Source) × (file_words words.now ≡ Ok name)
         × IsOpened (D.contents dock.old) (File name) 0 (D.Source.left first) × HasFailed D.Source.left D.Source.faults D.Source.mark first last) }
     ensures say { IsErrOf result ShowFault.Say → (b : List ℕ) × (placed : List Placed) × (rest : List ℕ) × IsShowOf (D.contents dock.old) words.now b × (length b ≤ show_limit)
-        × IsShownFront b placed rest × AppendsFront (D.printed dock.old) (D.printed dock.new) (printed_lines (show_lines b placed)) × Rose (D.print_faults dock.old) (D.print_faults dock.new) }
+        × IsShownFront b placed rest × AppendsFront (D.printed dock.old) (D.printed dock.new) (printed_lines (lines_up_to b placed rest)) × Rose (D.print_faults dock.old) (D.print_faults dock.new) }
     ensures memory { IsErrOf result ShowFault.Memory → (D.printed dock.new ≡ D.printed dock.old)
         ⊎ ((b : List ℕ) × (placed : List Placed) × (rest : List ℕ) × IsShowOf (D.contents dock.old) words.now b × (length b ≤ show_limit)
         × IsShownFront b placed rest × (n : ℕ) × Appends (D.printed dock.old) (D.printed dock.new) (printed_lines (take n (front_lines placed)))) }
@@ -94,9 +94,9 @@ pub fn file_main<D: Dock>(alloc: Global, words: &[Word], dock: &mut D) -> u8
         ⊎ ((name : List ℕ) × (first : D.Source) × (last : D.Source) × (file_words words.now ≡ Ok name)
         × IsOpened (D.contents dock.old) (File name) 0 (D.Source.left first) × HasFailed D.Source.left D.Source.faults D.Source.mark first last) }
 
-    // some front of the lines was said
+    // a front of the lines up to some place was said; the last line is among them only at the end
     ensures say_fault { result ≡ 8 → (b : List ℕ) × (placed : List Placed) × (rest : List ℕ) × IsShowOf (D.contents dock.old) words.now b × (length b ≤ show_limit)
-        × IsShownFront b placed rest × AppendsFront (D.printed dock.old) (D.printed dock.new) (printed_lines (show_lines b placed)) × Rose (D.print_faults dock.old) (D.print_faults dock.new) }
+        × IsShownFront b placed rest × AppendsFront (D.printed dock.old) (D.printed dock.new) (printed_lines (lines_up_to b placed rest)) × Rose (D.print_faults dock.old) (D.print_faults dock.new) }
 
     // some of the lines were said, and then the line of the fault
     ensures memory { result ≡ 9 → SaysBehind (D.printed dock.old) (D.printed dock.new) (D.print_faults dock.old) (D.print_faults dock.new) [] (codes "fault 9")

@@ -8,7 +8,7 @@ use Rattle.record_cli.specs.Show.{front_lines}
 use Rattle.record_cli.proofs.Errors.{handed}
 use Rattle.record_cli.proofs.Recordings.{appends_from, appends_front_from, rose_from}
 use Rattle.record_cli.proofs.Inputs.{rose_later}
-use Rattle.record_cli.proofs.Shown.{said_end, front_end, front_before}
+use Rattle.record_cli.proofs.Shown.{said_end, front_end, front_up_to}
 use Rattle.record_cli.proofs.file.show.Goals as goal
 
 pub returns-in_err-count-clause-say : goal.returns-in_err-count-clause-say
@@ -21,7 +21,7 @@ returns-in_err-count-clause-say g c = λ e.
       record { name = c.in-Ok.name.now; command = c.in-Ok.ensures; input = c.in_ok-file.ensures.text.0 },
       c.in_ok-file.ensures.text.1,
       record { chunks = c.in-Some.chunks.now; whole = sym c.bytes.ensures ∙ c.in-Some.ensures; stand = k.2; shown = k.3 },
-      front_before _ _ (front_lines k.0) (end_line (length b) (length k.0)) (appends_front_from _ _ _ _ _ c.in_ok-file.ensures.printed refl k.4),
+      front_up_to _ _ b k.0 k.1 (appends_front_from _ _ _ _ _ c.in_ok-file.ensures.printed refl k.4),
       rose_from _ _ _ c.in_ok-file.ensures.print_faults k.5,
     )
 
