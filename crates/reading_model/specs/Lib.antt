@@ -1,0 +1,3 @@
+pub mod Outlook
+pub mod Rules
+pub mod Reading
