@@ -1,1 +1,2 @@
 pub mod Inlet
+pub mod Fed

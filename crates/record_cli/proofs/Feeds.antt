@@ -1,125 +1,135 @@
--- Samples of a feed, one after the other, as a loop takes them.
-use Rattle.std.proofs.Common.{◌≡◌, ℕ, zero, suc, ◌<◌, ◌≤◌, true, false, eqb, List, [], ◌∷◌, ◌++◌, length, refl, sym, ap, ◌∙◌, subst, append_assoc, arith}
-use Rattle.std.proofs.lemmas.List.{append-nil, append_cancel_left, length-append}
-use Rattle.std.proofs.lemmas.Bool.{eqb-true}
-use Rattle.xdf_model.specs.Sample.{Sample, Joined}
-use Rattle.feed_model.specs.declared.Order.TheVariants.{Little}
-use Rattle.feed_model.specs.Feed.{IsFeedSample}
-use Rattle.feed_laws.proofs.Cut.{one_sample}
-use Rattle.record_cli.specs.Feed.{int16_shape, little_endian_reply, most_samples, IsFirstFeed}
+-- Samples of a feed, as a loop gets them of a reader, and what they are of the bytes at the feed's name.
+use Rattle.std.proofs.Common.{◌≡◌, ℕ, ◌+◌, ◌<◌, ◌≤◌, Bool, true, false, IsTrue, List, [], ◌∷◌, ◌++◌, length, Option, None, Some, inl, inr, refl, sym, ap, ◌∙◌, subst, append_assoc, arith}
+use Rattle.std.specs.Prelude.{◌⊎◌, slice_get}
+use Rattle.std.proofs.lemmas.List.{append-nil, length-append}
+use Rattle.std.specs.Io.KnownBytes.{Consumes, IsAtEnd}
+use Rattle.std.proofs.KnownBytes.{Consumes-nil, Consumes-trans}
+use Rattle.rec_base.specs.Contents.{Contents, IsOpened}
+use Rattle.rec_base.specs.declared.name.Name.{Name}
+use Rattle.reading_model.specs.Outlook.{How, ended, failed, All, Outlook, item, end, first, Kind, final, at_end, at_fault, at_limit, EndsBy, Answered}
+use Rattle.xdf_model.specs.Sample.{Sample}
+use Rattle.inlet_model.specs.declared.end.FeedEnd.{FeedEnd}
+use Rattle.inlet_model.specs.declared.end.FeedEnd.TheVariants as ends
+use Rattle.inlet_model.specs.Inlet.{feed_kind}
+use Rattle.inlet_model.specs.Fed.{Feed, EndsSo, IsFed}
+use Rattle.record_cli.specs.Feed.{int16_feed, int16_within, most_samples, IsFedOf, IsTold, HasMore}
 
-abbrev pub AreSamples : List Sample → List ℕ → Type 0
-AreSamples samples b = Joined (IsFeedSample int16_shape Little) samples b
+-- ---- calls, one after the other
 
--- what is still to be taken completes what was taken
-abbrev pub Completes : List ℕ → List Sample → List ℕ → Type 0
-Completes bytes samples rest = (zs : List Sample) → AreSamples zs rest → AreSamples (samples ++ zs) bytes
+-- these samples were given, and all others are still to come
+pub record Begun (feed : Feed) (now : Outlook Sample FeedEnd) (before left : Option (List ℕ)) (samples : List Sample) : Type 0 where
+  pub taken : List ℕ
+  pub lost : Consumes before left taken
+  pub same : (more : List ℕ) (how : How) → feed (taken ++ more) how ≡ (samples ++ (now.coming more how).0, (now.coming more how).1)
 
--- samples that all bytes are go on behind those that were taken
-pub record GoesOn (samples ys : List Sample) (rest : List ℕ) : Type 0 where
-  pub more : List Sample
-  pub parts : ys ≡ samples ++ more
-  pub are : AreSamples more rest
+pub begun_none : (feed : Feed) (now : Outlook Sample FeedEnd) (a : Option (List ℕ)) → ((more : List ℕ) (how : How) → now.coming more how ≡ feed more how) → Begun feed now a a []
+begun_none feed now a all = record { taken = []; lost = Consumes-nil a; same = λ more how. sym (all more how) }
 
-abbrev pub AllGoOn : List ℕ → List Sample → List ℕ → Type 0
-AllGoOn bytes samples rest = (ys : List Sample) → AreSamples ys bytes → GoesOn samples ys rest
+behind : List Sample → All Sample FeedEnd → All Sample FeedEnd
+behind samples all = (samples ++ all.0, all.1)
 
-pub goes_on_first : (bytes : List ℕ) → AllGoOn bytes [] bytes
-goes_on_first bytes = λ ys are. record { more = ys; parts = refl; are = are }
+pub begun_by : (feed : Feed) (now new : Outlook Sample FeedEnd) (a b c : Option (List ℕ)) (samples all : List Sample) (s : Sample)
+    → Begun feed now a b samples → Answered feed_kind now new b c (item s) → all ≡ samples ++ s ∷ [] → Begun feed new a c all
+begun_by feed now new a b c samples all s k t f =
+    let Q : List Sample → Type 0 = λ l. Begun feed new a c l in
+    let here : Begun feed new a c (samples ++ s ∷ []) = record {
+      taken = k.taken ++ t.taken;
+      lost = Consumes-trans a b c k.taken t.taken k.lost t.lost;
+      same = λ more how.
+          ap (λ (l : List ℕ). feed l how) (append_assoc k.taken t.taken more) ∙ k.same (t.taken ++ more) how
+          ∙ ap (λ (x : All Sample FeedEnd). (samples ++ x.0, x.1)) (t.gives.1 more how)
+          ∙ ap (λ (l : List Sample). (l, (new.coming more how).1)) (sym (append_assoc samples (s ∷ []) (new.coming more how).0));
+    } in subst Q (sym f) here
 
-pub completes_more : (bytes rest x after : List ℕ) (samples : List Sample) (s : Sample) → Completes bytes samples rest → IsFeedSample int16_shape Little s x → rest ≡ x ++ after
-    → Completes bytes (samples ++ s ∷ []) after
-completes_more bytes rest x after samples s completes is parts = λ zs are.
-    let P : List Sample → Type 0 = λ l. AreSamples l bytes in
-    subst P (sym (append_assoc samples (s ∷ []) zs)) (completes (s ∷ zs) (x, after, is, are, parts))
+is_left : (over : Bool) (left : Option (List ℕ)) → over ≡ false → IsTrue over ⊎ IsAtEnd left → IsAtEnd left
+is_left over left not_over (inl is) = absurd (cc (not_over, is))
+is_left over left not_over (inr is) = is
 
-next_more : (rest x after : List ℕ) (samples ys : List Sample) (s : Sample) → 0 < length rest → IsFeedSample int16_shape Little s x → rest ≡ x ++ after
-    → (more : List Sample) → ys ≡ samples ++ more → AreSamples more rest → GoesOn (samples ++ s ∷ []) ys after
-next_more rest x after samples ys s some is parts [] split are = absurd (omega (arith, ap length are, some))
-next_more rest x after samples ys s some is parts (z ∷ more) split are =
-    let one = one_sample int16_shape Little s z x are.0 after are.1 is are.2 (sym parts ∙ are.4) in
-    let rest_is : after ≡ are.1 = append_cancel_left x after are.1 (sym parts ∙ are.4 ∙ ap (λ (t : List ℕ). t ++ are.1) (sym one.1)) in
-    let P : List ℕ → Type 0 = λ t. AreSamples more t in
-    record {
-      more = more;
-      parts = split ∙ ap (λ (t : Sample). samples ++ t ∷ more) (sym one.0) ∙ sym (append_assoc samples (s ∷ []) more);
-      are = subst P (sym rest_is) are.3;
-    }
+module _ (feed : Feed) (now : Outlook Sample FeedEnd) (a b c : Option (List ℕ)) (samples : List Sample) (e : FeedEnd) (bytes : List ℕ) (k : Begun feed now a b samples) where
+  whatever : ((more : List ℕ) (how : How) → now.coming (bytes ++ more) how ≡ ([], e)) → (more : List ℕ) (how : How) → feed ((k.taken ++ bytes) ++ more) how ≡ (samples, e)
+  whatever h more how =
+      ap (λ (l : List ℕ). feed l how) (append_assoc k.taken bytes more) ∙ k.same (bytes ++ more) how
+      ∙ ap (λ (x : All Sample FeedEnd). (samples ++ x.0, x.1)) (h more how) ∙ ap (λ (l : List Sample). (l, e)) (append-nil samples)
 
-pub goes_on_more : (bytes rest x after : List ℕ) (samples : List Sample) (s : Sample) → 0 < length rest → AllGoOn bytes samples rest → IsFeedSample int16_shape Little s x → rest ≡ x ++ after
-    → AllGoOn bytes (samples ++ s ∷ []) after
-goes_on_more bytes rest x after samples s some all is parts = λ ys are.
-    let k = all ys are in next_more rest x after samples ys s some is parts k.more k.parts k.are
+  so : (how : How) → now.coming bytes how ≡ ([], e) → feed (k.taken ++ bytes) how ≡ (samples, e)
+  so how h = k.same bytes how ∙ ap (λ (x : All Sample FeedEnd). (samples ++ x.0, x.1)) h ∙ ap (λ (l : List Sample). (l, e)) (append-nil samples)
 
-pub all_taken : (bytes : List ℕ) (samples : List Sample) (rest : List ℕ) → Completes bytes samples rest → length rest ≡ 0 → AreSamples samples bytes
-all_taken bytes samples [] completes empty = let P : List Sample → Type 0 = λ l. AreSamples l bytes in subst P (append-nil samples) (completes [] refl)
-all_taken bytes samples (b ∷ rest) completes empty = absurd (omega (arith, empty))
+  ends_so : (kind : Kind) → now.is_over ≡ false → EndsBy kind now bytes c e → EndsSo kind feed (k.taken ++ bytes) c samples e
+  ends_so final not_over h = whatever h
+  ends_so at_limit not_over h = whatever h
+  ends_so at_end not_over h = (is_left now.is_over c not_over h.1, so ended h.0)
+  ends_so at_fault not_over h = so failed h
 
-none_next : (rest : List ℕ) → 0 < length rest → ((s : Sample) (x after : List ℕ) → IsFeedSample int16_shape Little s x → rest ≡ x ++ after → ⊥) → (more : List Sample) → AreSamples more rest → ⊥
-none_next rest some none [] are = omega (arith, ap length are, some)
-none_next rest some none (z ∷ more) are = none z are.0 are.1 are.2 are.4
+pub fed_by : (feed : Feed) (now new : Outlook Sample FeedEnd) (a b c : Option (List ℕ)) (samples : List Sample) (e : FeedEnd)
+    → Begun feed now a b samples → now.is_over ≡ false → Answered feed_kind now new b c (end e)
+    → (taken : List ℕ) × Consumes a c taken × EndsSo (feed_kind e) feed taken c samples e
+fed_by feed now new a b c samples e k not_over t =
+    (k.taken ++ t.taken, Consumes-trans a b c k.taken t.taken k.lost t.lost, ends_so feed now a b c samples e t.taken k (feed_kind e) not_over t.gives.0)
 
--- where no sample stands, the bytes are no samples
-pub none_taken : (bytes rest : List ℕ) (samples ys : List Sample) → 0 < length rest → AllGoOn bytes samples rest
-    → ((s : Sample) (x after : List ℕ) → IsFeedSample int16_shape Little s x → rest ≡ x ++ after → ⊥) → AreSamples ys bytes → ⊥
-none_taken bytes rest samples ys some all none are = let k = all ys are in none_next rest some none k.more k.are
+-- too many were given
+pub long_by : (now : Outlook Sample FeedEnd) (a b : Option (List ℕ)) (samples : List Sample) (k : Begun int16_feed now a b samples) → length samples ≡ 513 → HasMore k.taken
+long_by now a b samples k many = λ more how.
+    let parts = length-append samples (now.coming more how).0 in
+    let size : most_samples < length (samples ++ (now.coming more how).0) = omega (arith, parts, many) in
+    let P : List Sample → Type 0 = λ l. most_samples < length l in
+    subst P (sym (ap (λ (x : All Sample FeedEnd). x.0) (k.same more how))) size
 
--- too many were taken
-pub too_many : (bytes rest : List ℕ) (samples ys : List Sample) → AllGoOn bytes samples rest → AreSamples ys bytes → length ys ≤ 512 → length samples ≡ 513 → ⊥
-too_many bytes rest samples ys all are few many = let k = all ys are in omega (arith, ap length k.parts, length-append samples k.more, few, many)
+-- ---- the bytes at the name
 
--- ---- a whole feed
+fault_alone : (e : FeedEnd) → feed_kind e ≡ at_fault → e ≡ ends.ReadFault
+fault_alone ends.Whole k = absurd cc
+fault_alone ends.Limit k = absurd cc
+fault_alone ends.TornReply k = absurd cc
+fault_alone (ends.ReplyRefused at why) k = absurd cc
+fault_alone (ends.TornSample at) k = absurd cc
+fault_alone (ends.BadTag at byte) k = absurd cc
+fault_alone (ends.BadWidth at byte) k = absurd cc
+fault_alone (ends.SampleTooLong at) k = absurd cc
+fault_alone ends.ReadFault k = refl
+fault_alone ends.ByteLimit k = absurd cc
 
-module _ (text : List ℕ) where
-  pub not_behind : ((rest : List ℕ) → text ≡ little_endian_reply ++ rest → ⊥) → (samples : List Sample) → IsFirstFeed text samples → ⊥
-  not_behind none samples f = none (f.one_text ++ (f.two_text ++ f.texts)) f.whole
+module _ (text taken rest : List ℕ) (samples : List Sample) (e : FeedEnd) (parts : text ≡ taken ++ rest) where
+  whole_of : (kind : Kind) → (kind ≡ at_fault → ⊥) → EndsSo kind int16_feed taken (Some rest) samples e → int16_within text ≡ (samples, e)
+  whole_of final not h = ap (λ (l : List ℕ). int16_feed l ended) parts ∙ h rest ended
+  whole_of at_limit not h = ap (λ (l : List ℕ). int16_feed l ended) parts ∙ h rest ended
+  whole_of at_end not h =
+      ap (λ (l : List ℕ). int16_feed l ended) (parts ∙ ap (λ (l : List ℕ). taken ++ l) h.0 ∙ append-nil taken) ∙ h.1
+  whole_of at_fault not h = absurd (not refl)
 
-  module _ (rest : List ℕ) (front : text ≡ little_endian_reply ++ rest) where
-    rest_is : (samples : List Sample) (f : IsFirstFeed text samples) → rest ≡ f.one_text ++ (f.two_text ++ f.texts)
-    rest_is samples f = append_cancel_left little_endian_reply rest (f.one_text ++ (f.two_text ++ f.texts)) (sym front ∙ f.whole)
+  cut_of : (kind : Kind) → kind ≡ at_fault → EndsSo kind int16_feed taken (Some rest) samples e → int16_feed taken failed ≡ (samples, e)
+  cut_of final is h = absurd cc
+  cut_of at_limit is h = absurd cc
+  cut_of at_end is h = absurd cc
+  cut_of at_fault is h = h
 
-    pub no_first : ((s : Sample) (x after : List ℕ) → IsFeedSample int16_shape Little s x → rest ≡ x ++ after → ⊥) → (samples : List Sample) → IsFirstFeed text samples → ⊥
-    no_first none samples f = none f.one f.one_text (f.two_text ++ f.texts) f.one_is (rest_is samples f)
+  fed_of : EndsSo (feed_kind e) int16_feed taken (Some rest) samples e → IsFedOf text samples e
+  fed_of h = record {
+    whole = λ not. whole_of (feed_kind e) (λ k. not (fault_alone e k)) h;
+    cut = λ is. (taken, rest, parts, cut_of (feed_kind e) (ap feed_kind is) h);
+  }
 
-    module _ (s : Sample) (x second : List ℕ) (is : IsFeedSample int16_shape Little s x) (parts : rest ≡ x ++ second) where
-      second_is : (samples : List Sample) (f : IsFirstFeed text samples) → second ≡ f.two_text ++ f.texts
-      second_is samples f =
-          let all = sym parts ∙ rest_is samples f in
-          let one = one_sample int16_shape Little s f.one x f.one_text second (f.two_text ++ f.texts) is f.one_is all in
-          append_cancel_left x second (f.two_text ++ f.texts) (all ∙ ap (λ (t : List ℕ). t ++ (f.two_text ++ f.texts)) (sym one.1))
+-- a source that was opened where contents are told has the text there
+told_left : (texts : Contents) (name : Name) (left last : Option (List ℕ)) (taken : List ℕ) (samples : List Sample) (e : FeedEnd)
+    → IsOpened (Some texts) name 0 left → Consumes left last taken → EndsSo (feed_kind e) int16_feed taken last samples e
+    → (text : List ℕ) × (slice_get (texts name) 0 ≡ Some text) × IsFedOf text samples e
+told_left texts name None last taken samples e opened lost h = absurd (cc opened.1)
+told_left texts name (Some xs) None taken samples e opened lost h = absurd lost
+told_left texts name (Some xs) (Some ys) taken samples e opened lost h =
+    let is : xs ≡ opened.0 = cc opened.1 in
+    (opened.0, opened.2, fed_of opened.0 taken ys samples e (sym is ∙ lost) h)
 
-      pub no_second : ((t : Sample) (y after : List ℕ) → IsFeedSample int16_shape Little t y → second ≡ y ++ after → ⊥) → (samples : List Sample) → IsFirstFeed text samples → ⊥
-      no_second none samples f = none f.two f.two_text f.texts f.two_is (second_is samples f)
+pub told_of : (contents : Option Contents) (name : Name) (left last : Option (List ℕ)) (taken : List ℕ) (samples : List Sample) (e : FeedEnd)
+    → IsOpened contents name 0 left → Consumes left last taken → EndsSo (feed_kind e) int16_feed taken last samples e → IsTold contents name samples e
+told_of contents name left last taken samples e opened lost h = λ texts told.
+    let P : Option Contents → Type 0 = λ c. IsOpened c name 0 left in
+    told_left texts name left last taken samples e (subst P told opened) lost h
 
-      module _ (t : Sample) (y third : List ℕ) (is_too : IsFeedSample int16_shape Little t y) (parts_too : second ≡ y ++ third) where
-        third_is : (samples : List Sample) (f : IsFirstFeed text samples) → third ≡ f.texts
-        third_is samples f =
-            let all = sym parts_too ∙ second_is samples f in
-            let one = one_sample int16_shape Little t f.two y f.two_text third f.texts is_too f.two_is all in
-            append_cancel_left y third f.texts (all ∙ ap (λ (u : List ℕ). u ++ f.texts) (sym one.1))
-
-        pub no_samples : ((ys : List Sample) → AreSamples ys third → length ys ≤ most_samples → ⊥) → (samples : List Sample) → IsFirstFeed text samples → ⊥
-        no_samples none samples f = let P : List ℕ → Type 0 = λ u. AreSamples samples u in none samples (subst P (sym (third_is samples f)) f.are) f.few
-
-        pub feed_made : (samples : List Sample) → AreSamples samples third → length samples ≤ most_samples → IsFirstFeed text samples
-        feed_made samples are few = record {
-          one = s;
-          one_text = x;
-          one_is = is;
-          two = t;
-          two_text = y;
-          two_is = is_too;
-          texts = third;
-          are = are;
-          few = few;
-          whole = front ∙ ap (λ (u : List ℕ). little_endian_reply ++ u) (parts ∙ ap (λ (u : List ℕ). x ++ u) parts_too);
-        }
-
--- ---- what a test for an empty rest says
-
-pub is_zero : (n : ℕ) → eqb n 0 ≡ true → n ≡ 0
-is_zero n e = eqb-true n 0 e
-
-pub not_zero : (n : ℕ) → eqb n 0 ≡ false → 0 < n
-not_zero zero e = absurd cc
-not_zero (suc n) e = omega arith
+-- what was taken is a front of the text there
+pub long_text : (texts : Contents) (name : Name) (left last : Option (List ℕ)) (taken text : List ℕ) → IsOpened (Some texts) name 0 left → Consumes left last taken → slice_get (texts name) 0 ≡ Some text
+    → HasMore taken → most_samples < length (int16_within text).0
+long_text texts name None last taken text opened lost there more = absurd (cc opened.1)
+long_text texts name (Some xs) None taken text opened lost there more = absurd lost
+long_text texts name (Some xs) (Some ys) taken text opened lost there more =
+    let is : xs ≡ text = cc (opened.1, opened.2, there) in
+    let P : List ℕ → Type 0 = λ t. most_samples < length (int16_within t).0 in
+    subst P (sym lost ∙ is) (more ys ended)

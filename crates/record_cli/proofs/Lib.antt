@@ -2,7 +2,6 @@ pub mod Apart
 pub mod Errors
 pub mod Faults
 pub mod Feeds
-pub mod FeedSizes
 pub mod Fronts
 pub mod Inputs
 pub mod OneFront

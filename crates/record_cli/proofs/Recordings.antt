@@ -10,15 +10,16 @@ use Rattle.chunk_grammar.specs.declared.chunk.Chunk.{Chunk}
 use Rattle.chunk_grammar.specs.Chunk.{IsFileText, least_file_text}
 use Rattle.recording_model.specs.Batch.{one_batch}
 use Rattle.recording_model.specs.Recording.{IsRecording}
+use Rattle.inlet_model.specs.declared.end.FeedEnd.{FeedEnd}
 use Rattle.record_cli.specs.Words.{record_words}
 use Rattle.record_cli.specs.Inputs.{IsFirstForm}
 use Rattle.record_cli.specs.Recorded.{int16_stream, IsRecordingOf}
 use Rattle.record_cli.specs.Show.{IsShownWhole}
 
-pub recording_of : (contents : Option Contents) (words : List (List ℕ)) (plan out : List ℕ) (samples : List Sample) (cs : List Chunk)
-    → record_words words ≡ Ok (plan, out) → IsFirstForm contents plan out samples → IsRecording (int16_stream ∷ []) (one_batch samples) cs → IsFileText cs (least_file_text cs) → IsShownWhole (least_file_text cs) cs
-    → IsRecordingOf contents words out samples cs
-recording_of contents words plan out samples cs command form recording text shown = record { plan = plan; command = command; form = form; recording = recording; text = text; shown = shown }
+pub recording_of : {S M : Type 0} (left_of : S → Option (List ℕ)) (faults_of : S → ℕ) (mark_of : S → M) (contents : Option Contents) (words : List (List ℕ)) (plan out : List ℕ) (samples : List Sample) (end : FeedEnd) (cs : List Chunk)
+    → record_words words ≡ Ok (plan, out) → IsFirstForm left_of faults_of mark_of contents plan out samples end → IsRecording (int16_stream ∷ []) (one_batch samples) cs → IsFileText cs (least_file_text cs) → IsShownWhole (least_file_text cs) cs
+    → IsRecordingOf left_of faults_of mark_of contents words out samples end cs
+recording_of {S} {M} left_of faults_of mark_of contents words plan out samples end cs command form recording text shown = record { plan = plan; command = command; form = form; recording = recording; text = text; shown = shown }
 
 pub becomes_from : (a b c : Option (List ℕ)) (xs ys : List ℕ) → b ≡ a → xs ≡ ys → Becomes b c xs → Becomes a c ys
 becomes_from a b c xs ys same is becomes =
@@ -52,6 +53,3 @@ both {a} {b} {c} {d} p q = ap (λ (t : List ℕ). t ++ c) p ∙ ap (λ (t : List
 
 pub rose_from : (a b c : ℕ) → b ≡ a → Rose b c → Rose a c
 rose_from a b c same rose = let P : ℕ → Type 0 = λ n. Rose n c in subst P same rose
-
-pub of_err : {T E P : Type 0} (r : Result T E) (e : E) → OnErr r P → IsErrOf r e → P
-of_err {T} {E} {P} r e told is = let Q : Result T E → Type 0 = λ x. OnErr x P in subst Q is told

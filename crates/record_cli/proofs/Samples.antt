@@ -1,5 +1,5 @@
 -- The samples of a captured feed of this stage fit their shape, and are short.
-use Rattle.std.proofs.Common.{◌≡◌, ℕ, ◌*◌, ◌≤◌, List, [], ◌∷◌, length, Ok, refl, ap, arith}
+use Rattle.std.proofs.Common.{◌≡◌, ℕ, ◌*◌, ◌≤◌, List, [], ◌∷◌, ◌++◌, length, Ok, refl, ap, arith}
 use Rattle.std.specs.List.{flat_map, AllByRecursion}
 use Rattle.std.proofs.lemmas.List.{length-append}
 use Rattle.std.proofs.lemmas.List.Concat.{flat_map-cons}
@@ -12,11 +12,10 @@ use Rattle.recording_model.specs.Batch.{texts_of}
 use Rattle.record_writer.specs.OneBatch.{IsShortStream}
 use Rattle.record_cli.specs.Feed.{int16_document, int16_shape, most_samples}
 use Rattle.record_cli.specs.Recorded.{int16_stream}
-use Rattle.record_cli.proofs.Feeds.{AreSamples}
 
-pub samples_fit : (samples : List Sample) (b : List ℕ) → AreSamples samples b → AllByRecursion (FitsShape int16_shape) samples
-samples_fit [] b are = tt
-samples_fit (s ∷ samples) b are = (are.2.fits, samples_fit samples are.1 are.3)
+pub fits_more : (samples : List Sample) (s : Sample) → AllByRecursion (FitsShape int16_shape) samples → FitsShape int16_shape s → AllByRecursion (FitsShape int16_shape) (samples ++ s ∷ [])
+fits_more [] s fit fits = (fits, tt)
+fits_more (x ∷ samples) s fit fits = (fit.0, fits_more samples s fit.1 fits)
 
 value_size : (v : Value) → FitsValue 2 v → length (least_value_text 2 v) ≡ 2
 value_size (number n) fits = length-little_bytes 2 n

@@ -1,16 +1,17 @@
 //! The captured feed of this stage.
 
-ghost use Rattle.std.specs.Prelude.{◌≡◌, ◌≢◌, ◌++◌, ◌⊎◌, ◌≤◌, IfOk, MatchOption, IsErrOf, OnErr, ℕ, List, length};
-ghost use Rattle.feed_model.specs.declared.Order.TheVariants.{Little};
-ghost use Rattle.feed_model.specs.Feed.{IsFeedSample};
-ghost use Rattle.xdf_model.specs.Sample.{Sample as SampleValue, Joined};
-ghost use Rattle.record_cli.specs.Feed.{int16_shape, little_endian_reply, most_samples, IsFirstFeed};
+ghost use Rattle.std.specs.Prelude.{◌≡◌, ◌⊎◌, ◌≤◌, IfOk, IsErrOf, OnErr, ℕ, List, length};
+ghost use Rattle.std.specs.List.{AllByRecursion};
+ghost use Rattle.std.specs.Io.KnownBytes.{Consumes};
+ghost use Rattle.xdf_model.specs.Sample.{FitsShape};
+ghost use Rattle.inlet_model.specs.Fed.{IsFed};
+ghost use Rattle.record_cli.specs.Feed.{int16_shape, int16_feed, most_samples, HasMore};
 
-use crate::bytes::behind;
 use crate::fault::RecordFault;
 use chunk_grammar::SampleList;
-use feed_samples::{Order, SampleRead, read_feed_sample};
-use sample_values::{Format, Sample, Shape};
+use feed_samples::{FeedEnd, FeedReader, FeedStep};
+use rec_base::Source;
+use sample_values::{Format, Shape};
 use std::alloc::Global;
 
 /// One int16 channel.
@@ -22,63 +23,33 @@ pub(crate) const INT16_SHAPE: Shape = Shape {
 // The most samples that this stage records.
 const MOST_SAMPLES: usize = 512;
 
-// The sample at the front of a feed's bytes, and the bytes behind it.
-fn take_sample(alloc: Global, bytes: &[u8]) -> Result<(Sample, &[u8]), RecordFault>
-    ensures ok { IfOk result (λ taken. (x : List ℕ) × IsFeedSample int16_shape Little taken.0 x × (bytes.now ≡ x ++ taken.1.now)) }
-    ensures other { IsErrOf result RecordFault.OtherForm → (s : SampleValue) (x rest : List ℕ) → IsFeedSample int16_shape Little s x → bytes.now ≡ x ++ rest → ⊥ }
-    ensures none_else { OnErr result (IsErrOf result RecordFault.OtherForm ⊎ IsErrOf result RecordFault.Memory) }
-{
-    match read_feed_sample(alloc, &INT16_SHAPE, Order::Little, bytes) {
-        SampleRead::Whole { sample, used } => Ok((sample, &bytes[used..])),
-        SampleRead::Memory => Err(RecordFault::Memory),
-        _ => Err(RecordFault::OtherForm),
-    }
+// The most bytes of a feed that count.
+const BYTE_LIMIT: u64 = 1_099_511_627_776;
+
+/// The samples of a feed, and how it ended.
+#[derive(Debug, Drop)]
+pub(crate) struct ReadFeed {
+    pub(crate) samples: SampleList,
+    pub(crate) end: FeedEnd,
 }
 
-// All bytes as samples.
-fn take_samples(alloc: Global, bytes: &[u8]) -> Result<SampleList, RecordFault>
-    ensures ok { IfOk result (λ samples. Joined (IsFeedSample int16_shape Little) samples bytes.now × (length samples ≤ most_samples)) }
-    ensures other { IsErrOf result RecordFault.OtherForm → (samples : List SampleValue) → Joined (IsFeedSample int16_shape Little) samples bytes.now → length samples ≤ most_samples → ⊥ }
+/// Reads a feed of one int16 channel up to its end, whatever that is. A 513th sample is
+/// `OtherForm`.
+pub(crate) fn read_feed<S: Source + Drop>(alloc: Global, source: S) -> Result<ReadFeed, RecordFault>
+    ensures fed { IfOk result (λ feed. (last : S) × IsFed S.left S.faults S.mark int16_feed source last feed.samples feed.end) }
+    ensures fits { IfOk result (λ feed. AllByRecursion (FitsShape int16_shape) feed.samples) }
+    ensures few { IfOk result (λ feed. length feed.samples ≤ most_samples) }
+    ensures other { IsErrOf result RecordFault.OtherForm → (last : S) × (taken : List ℕ) × Consumes (S.left source) (S.left last) taken × HasMore taken }
     ensures none_else { OnErr result (IsErrOf result RecordFault.OtherForm ⊎ IsErrOf result RecordFault.Memory) }
 {
+    let mut reader = FeedReader::new(alloc, source, INT16_SHAPE, None, None, BYTE_LIMIT)?;
     let mut samples = SampleList::new(alloc);
-    let mut rest = bytes;
     for _ in 0..MOST_SAMPLES + 1 {
-        if rest.is_empty() {
-            return Ok(samples);
+        match reader.next() {
+            FeedStep::Sample(sample) => samples.push(sample)?,
+            FeedStep::End(end) => return Ok(ReadFeed { samples, end }),
+            FeedStep::Memory => return Err(RecordFault::Memory),
         }
-        let (sample, after) = take_sample(alloc, rest)?;
-        samples.push(sample)?;
-        rest = after;
     }
     Err(RecordFault::OtherForm)
-}
-
-// The bytes behind a test sample, which is measured and dropped.
-fn skip_sample(alloc: Global, bytes: &[u8]) -> Result<&[u8], RecordFault>
-    ensures ok { IfOk result (λ rest. (s : SampleValue) × (x : List ℕ) × IsFeedSample int16_shape Little s x × (bytes.now ≡ x ++ rest.now)) }
-    ensures other { IsErrOf result RecordFault.OtherForm → (s : SampleValue) (x rest : List ℕ) → IsFeedSample int16_shape Little s x → bytes.now ≡ x ++ rest → ⊥ }
-    ensures none_else { OnErr result (IsErrOf result RecordFault.OtherForm ⊎ IsErrOf result RecordFault.Memory) }
-{
-    let (_sample, rest) = take_sample(alloc, bytes)?;
-    Ok(rest)
-}
-
-/// The samples of a captured feed of one int16 channel: the reply of an outlet that sends
-/// little-endian numbers, two test samples, and at most 512 samples up to the end. Any other bytes
-/// are `OtherForm` (LSL data protocol 1.10; that it is just this reply is this project's own).
-pub(crate) fn read_feed(alloc: Global, text: &[u8]) -> Result<SampleList, RecordFault>
-    ensures ok { IfOk result (λ samples. IsFirstFeed text.now samples) }
-    ensures other { IsErrOf result RecordFault.OtherForm → (samples : List SampleValue) → IsFirstFeed text.now samples → ⊥ }
-    ensures none_else { OnErr result (IsErrOf result RecordFault.OtherForm ⊎ IsErrOf result RecordFault.Memory) }
-{
-    let Some(rest) = behind(
-        text,
-        b"LSL/110 200 OK\r\nUID: u1\r\nByte-Order: 1234\r\nSuppress-Subnormals: 0\r\nData-Protocol-Version: 110\r\n\r\n",
-    ) else {
-        return Err(RecordFault::OtherForm);
-    };
-    let rest = skip_sample(alloc, rest)?;
-    let rest = skip_sample(alloc, rest)?;
-    take_samples(alloc, rest)
 }

@@ -5,23 +5,20 @@ ghost use Rattle.rec_base.specs.Causes.{Rose};
 ghost use Rattle.rec_base.specs.Contents.{IsInput, IsOpened};
 ghost use Rattle.rec_base.specs.Moved.{HasFailed};
 ghost use Rattle.rec_base.specs.declared.name.Name.{Name as NameValue};
-ghost use Rattle.xdf_model.specs.Sample.{Sample as SampleValue};
 ghost use Rattle.record_cli.specs.Plan.{document_limit, IsFirstPlan};
-ghost use Rattle.record_cli.specs.Feed.{feed_limit, int16_document, IsFirstFeed};
+ghost use Rattle.std.specs.List.{AllByRecursion};
+ghost use Rattle.xdf_model.specs.Sample.{FitsShape};
+ghost use Rattle.record_cli.specs.Feed.{int16_document, int16_shape, most_samples, IsFeedAt, IsLongFeedAt};
 ghost use Rattle.record_cli.specs.Inputs.{KeepsOthers, IsNamed, IsFirstForm, IsOtherPlan, IsOtherDocument, IsOtherFeed, IsOtherForm, IsInputName};
 
 use crate::fault::RecordFault;
-use crate::feed::read_feed;
+use crate::feed::{ReadFeed, read_feed};
 use crate::plan::{FirstPlan, read_plan};
-use chunk_grammar::SampleList;
 use rec_base::{Blob, DocFault, Dock, Failed, Lines, Name, Sink, Source, Word, read_document};
 use std::alloc::Global;
 
 /// The most bytes of a plan and of a header document.
 const DOCUMENT_LIMIT: u64 = 1_048_576;
-
-/// The most bytes of a feed.
-const FEED_LIMIT: u64 = 5_751;
 
 /// The header document of one int16 channel.
 pub(crate) const INT16_DOCUMENT: &[u8] =
@@ -112,14 +109,13 @@ fn open_document<D: Dock>(alloc: Global, dock: &mut D, doc: &Word) -> Result<(),
     Ok(())
 }
 
-// Opens and reads the feed.
-fn open_feed<D: Dock>(alloc: Global, dock: &mut D, feed: &Word) -> Result<SampleList, RecordFault>
-    ensures input { IfOk result (λ samples. (text : List ℕ) × IsInput (D.contents dock.old) (NameValue.File feed.now) 0 text × IsFirstFeed text samples) }
-    ensures other { IsErrOf result RecordFault.OtherForm → (text : List ℕ) × IsInput (D.contents dock.old) (NameValue.File feed.now) 0 text
-        × ((samples : List SampleValue) → IsFirstFeed text samples → ⊥) }
-    ensures failed { IsErrOf result RecordFault.Open → Rose (D.open_faults dock.old) (D.open_faults dock.new)
-        ⊎ ((first : D.Source) × (last : D.Source) × IsOpened (D.contents dock.old) (NameValue.File feed.now) 0 (D.Source.left first)
-        × HasFailed D.Source.left D.Source.faults D.Source.mark first last) }
+// Opens and reads the feed. Once it is open, a read that fails is its end.
+fn open_feed<D: Dock>(alloc: Global, dock: &mut D, feed: &Word) -> Result<ReadFeed, RecordFault>
+    ensures fed { IfOk result (λ read. IsFeedAt D.Source.left D.Source.faults D.Source.mark (D.contents dock.old) (NameValue.File feed.now) read.samples read.end) }
+    ensures fits { IfOk result (λ read. AllByRecursion (FitsShape int16_shape) read.samples) }
+    ensures few { IfOk result (λ read. length read.samples ≤ most_samples) }
+    ensures other { IsErrOf result RecordFault.OtherForm → IsLongFeedAt D.Source.left (D.contents dock.old) (NameValue.File feed.now) }
+    ensures failed { IsErrOf result RecordFault.Open → Rose (D.open_faults dock.old) (D.open_faults dock.new) }
     ensures none_else { OnErr result (IsErrOf result RecordFault.OtherForm ⊎ IsErrOf result RecordFault.Open ⊎ IsErrOf result RecordFault.Memory) }
     ensures later { D.open_faults dock.old ≤ D.open_faults dock.new }
     ensures target { D.target dock.new ≡ D.target dock.old }
@@ -128,8 +124,15 @@ fn open_feed<D: Dock>(alloc: Global, dock: &mut D, feed: &Word) -> Result<Sample
     ensures write_faults { D.write_faults dock.new ≡ D.write_faults dock.old }
     ensures print_faults { D.print_faults dock.new ≡ D.print_faults dock.old }
 {
-    let text = read_input(alloc, dock, feed, FEED_LIMIT)?;
-    read_feed(alloc, text.bytes())
+    let word = match Word::from_bytes(alloc, feed.bytes()) {
+        Ok(word) => word,
+        Err(_) => return Err(RecordFault::Memory),
+    };
+    let source = match dock.open(&Name::File(word)) {
+        Ok(source) => source,
+        Err(Failed) => return Err(RecordFault::Open),
+    };
+    read_feed(alloc, source)
 }
 
 /// Opens and reads the plan, the header document that it names, and the feed. Nothing is
@@ -139,9 +142,11 @@ pub(crate) fn read_inputs<D: Dock>(
     dock: &mut D,
     plan: &Word,
     out: &Word,
-) -> Result<SampleList, RecordFault>
-    ensures form { IfOk result (λ samples. IsFirstForm (D.contents dock.old) plan.now out.now samples) }
-    ensures other { IsErrOf result RecordFault.OtherForm → IsOtherForm (D.contents dock.old) plan.now out.now }
+) -> Result<ReadFeed, RecordFault>
+    ensures form { IfOk result (λ read. IsFirstForm D.Source.left D.Source.faults D.Source.mark (D.contents dock.old) plan.now out.now read.samples read.end) }
+    ensures fits { IfOk result (λ read. AllByRecursion (FitsShape int16_shape) read.samples) }
+    ensures few { IfOk result (λ read. length read.samples ≤ most_samples) }
+    ensures other { IsErrOf result RecordFault.OtherForm → IsOtherForm D.Source.left (D.contents dock.old) plan.now out.now }
     ensures failed { IsErrOf result RecordFault.Open → Rose (D.open_faults dock.old) (D.open_faults dock.new)
         ⊎ ((name : NameValue) × (first : D.Source) × (last : D.Source) × IsInputName (D.contents dock.old) plan.now out.now name
         × IsOpened (D.contents dock.old) name 0 (D.Source.left first) × HasFailed D.Source.left D.Source.faults D.Source.mark first last) }

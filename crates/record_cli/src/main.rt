@@ -7,6 +7,7 @@ ghost use Rattle.record_cli.specs.Words.{starts_record};
 ghost use Rattle.std.specs.declared.io.ErrorKind.TheVariants.{InvalidData};
 
 mod bytes;
+mod end;
 mod fault;
 mod feed;
 mod file;

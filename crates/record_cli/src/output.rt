@@ -17,11 +17,11 @@ ghost use Rattle.record_cli.specs.Show.{IsShownWhole};
 ghost use Rattle.record_cli.specs.Said.{SaysFault};
 ghost use Rattle.record_cli.specs.Words.{is_usage};
 
+use crate::end::end_words;
 use crate::fault::RecordFault;
-use crate::feed::INT16_SHAPE;
+use crate::feed::{INT16_SHAPE, ReadFeed};
 use crate::input::INT16_DOCUMENT;
 use chunk_encoder::write_all_of;
-use chunk_grammar::SampleList;
 use rec_base::{Blob, Dock, Failed, Lines, Memory, Sink, Word};
 use record_writer::{StreamDoc, recording_text};
 use std::alloc::Global;
@@ -35,13 +35,13 @@ pub(crate) struct Ready {
     pub(crate) recorded_line: String,
 }
 
-/// Makes the file and the lines of a recording of these samples.
-pub(crate) fn make_ready(alloc: Global, samples: SampleList) -> Result<Ready, Memory>
-    requires fits { AllByRecursion (FitsShape int16_shape) samples }
-    requires few { length samples ≤ most_samples }
-    ensures { IfOk result (λ ready. (cs : List ChunkValue) × IsRecording (int16_stream ∷ []) (one_batch samples) cs
+/// Makes the file and the lines of a recording of what was read of a feed.
+pub(crate) fn make_ready(alloc: Global, read: ReadFeed) -> Result<Ready, Memory>
+    requires fits { AllByRecursion (FitsShape int16_shape) read.samples }
+    requires few { length read.samples ≤ most_samples }
+    ensures { IfOk result (λ ready. (cs : List ChunkValue) × IsRecording (int16_stream ∷ []) (one_batch read.samples) cs
         × IsFileText cs (least_file_text cs) × (ready.text.items ≡ least_file_text cs)
-        × (string_bytes ready.feed_line ≡ feed_line (length samples))
+        × (string_bytes ready.feed_line ≡ feed_line (length read.samples) read.end)
         × (string_bytes ready.recorded_line ≡ recorded_line (length (least_file_text cs)) (length cs)) × IsShownWhole (least_file_text cs) cs) }
 {
     let stream = StreamDoc {
@@ -49,12 +49,14 @@ pub(crate) fn make_ready(alloc: Global, samples: SampleList) -> Result<Ready, Me
         doc: Blob::from_bytes(alloc, INT16_DOCUMENT)?,
         shape: INT16_SHAPE,
     };
+    let ReadFeed { samples, end } = read;
     let received = samples.len();
+    let ended = end_words(alloc, end)?;
     let text = recording_text(alloc, stream, samples)?;
     let bytes = text.bytes.len();
     let chunks = text.chunks;
     let feed_line = format!(in alloc;
-        "feed 1 received {received} kept {received} lost 0 end whole"
+        "feed 1 received {received} kept {received} lost 0 end {ended}"
     )?;
     let recorded_line = format!(in alloc; "recorded bytes {bytes} chunks {chunks}")?;
     Ok(Ready {

@@ -38,18 +38,28 @@ pub(crate) fn file(alloc: Global, path: &str, bytes: &[u8]) -> Result<(Name, Mem
     Ok((name, MemSource::new(vec![in alloc; piece]?)))
 }
 
-// The calls of a dock that fail, counted from 1 for each kind; 0 stands for none.
+// A file whose reads fail behind these bytes.
+fn failing_file(alloc: Global, path: &str, bytes: &[u8]) -> Result<(Name, MemSource), Fail> {
+    let name = Name::File(Word::from_bytes(alloc, path.as_bytes())?);
+    let piece = Piece::Give(Blob::from_bytes(alloc, bytes)?);
+    Ok((name, MemSource::new(vec![in alloc; piece, Piece::Fail]?)))
+}
+
+// The calls of a dock that fail, counted from 1 for each kind; 0 stands for none. And whether the
+// read behind the feed's bytes fails.
 #[derive(Clone, Copy)]
 pub(crate) struct Fails {
     pub(crate) open: u64,
     pub(crate) write: u64,
     pub(crate) say: u64,
+    pub(crate) read: bool,
 }
 
 pub(crate) const NONE: Fails = Fails {
     open: 0,
     write: 0,
     say: 0,
+    read: false,
 };
 
 // Records on a dock with these inputs.
@@ -60,11 +70,12 @@ pub(crate) fn record_on(
     feed: &[u8],
     fails: Fails,
 ) -> Result<(u8, MemDock), Fail> {
-    let files = vec![in alloc;
-        file(alloc, "p", PLAN)?,
-        file(alloc, "h", doc)?,
-        file(alloc, "a", feed)?,
-    ]?;
+    let captured = if fails.read {
+        failing_file(alloc, "a", feed)?
+    } else {
+        file(alloc, "a", feed)?
+    };
+    let files = vec![in alloc; file(alloc, "p", PLAN)?, file(alloc, "h", doc)?, captured]?;
     let mut dock = MemDock::new(
         alloc,
         files,
@@ -137,24 +148,74 @@ fn the_most_samples_are_512(rt: HostRuntime) -> Result<(), Fail> {
     Ok(())
 }
 
+// What is said of a recording of so many samples whose feed ended so.
+fn lines_of(alloc: Global, samples: usize, end: &str) -> Result<String, Fail> {
+    let size = match samples {
+        0 => "527 chunks 5",
+        1 => "540 chunks 6",
+        _ => "546 chunks 6",
+    };
+    Ok(format!(in alloc;
+        "feed 1 received {samples} kept {samples} lost 0 end {end}\nrecorded bytes {size}\n"
+    )?)
+}
+
 #[test]
-fn a_document_and_a_feed_of_another_form_are_refused(rt: HostRuntime) -> Result<(), Fail> {
+fn a_feed_is_kept_up_to_its_end_whatever_that_is(rt: HostRuntime) -> Result<(), Fail> {
     let whole = feed_of(rt.alloc(), 3)?;
-    let longer =
-        b"<info><channel_count>1</channel_count><channel_format>int16</channel_format></info>\n";
-    for (doc, cut) in [
-        (INT16_DOCUMENT, 120),
-        (INT16_DOCUMENT, 118),
-        (INT16_DOCUMENT, 0),
-        (longer.as_slice(), 128),
+    let cut_read = Fails { read: true, ..NONE };
+    for (cut, fails, status, samples, end) in [
+        (0, NONE, 1, 0, "torn-reply"),
+        (97, NONE, 1, 0, "torn-sample 97"),
+        (118, NONE, 1, 0, "torn-sample 108"),
+        (119, NONE, 0, 0, "whole"),
+        (120, NONE, 1, 0, "torn-sample 119"),
+        (122, NONE, 0, 1, "whole"),
+        (122, cut_read, 1, 1, "read-fault"),
+        (128, cut_read, 1, 3, "read-fault"),
     ] {
         let feed = whole.get(..cut).unwrap_or(&[]);
-        let want = (10, "fault 10\n", false);
-        assert!(rt;
-            records(rt.alloc(), RECORD, doc, feed, NONE, want)?,
-            "{cut} bytes"
-        );
+        let lines = lines_of(rt.alloc(), samples, end)?;
+        let want = (status, lines.as_str(), true);
+        let as_told = records(rt.alloc(), RECORD, INT16_DOCUMENT, feed, fails, want)?;
+        assert!(rt; as_told, "{cut} bytes, {end}");
     }
+    Ok(())
+}
+
+#[test]
+fn other_replies_and_faulty_samples_are_told(rt: HostRuntime) -> Result<(), Fail> {
+    let big_endian =
+        b"LSL/110 200 OK\r\nByte-Order: 4321\r\nData-Protocol-Version: 110\r\n\r\n\x01\0\0\x01\0\0\x01\0\x05";
+    let no_order = b"LSL/110 200 OK\r\nData-Protocol-Version: 110\r\n\r\n";
+    let bad_tag =
+        b"LSL/110 200 OK\r\nByte-Order: 1234\r\nData-Protocol-Version: 110\r\n\r\n\x01\0\0\x01\0\0\x01\x05\0\x07";
+    for (feed, status, samples, end) in [
+        (big_endian.as_slice(), 0, 1, "whole"),
+        (
+            b"LSL/110 404 Not found\r\n".as_slice(),
+            1,
+            0,
+            "reply-refused 0 3",
+        ),
+        (no_order.as_slice(), 1, 0, "reply-refused 44 8"),
+        (bad_tag.as_slice(), 1, 1, "bad-tag 73 7"),
+    ] {
+        let lines = lines_of(rt.alloc(), samples, end)?;
+        let want = (status, lines.as_str(), true);
+        let as_told = records(rt.alloc(), RECORD, INT16_DOCUMENT, feed, NONE, want)?;
+        assert!(rt; as_told, "{end}");
+    }
+    Ok(())
+}
+
+#[test]
+fn a_document_of_another_form_is_refused(rt: HostRuntime) -> Result<(), Fail> {
+    let feed = feed_of(rt.alloc(), 3)?;
+    let longer =
+        b"<info><channel_count>1</channel_count><channel_format>int16</channel_format></info>\n";
+    let want = (10, "fault 10\n", false);
+    assert!(rt; records(rt.alloc(), RECORD, longer, &feed, NONE, want)?);
     Ok(())
 }
 

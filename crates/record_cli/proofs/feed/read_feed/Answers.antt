@@ -1,34 +1,65 @@
-use Rattle.std.proofs.Common.{◌≤◌, List, length}
-use Rattle.std.proofs.lemmas.Result.{IfOk-weaker}
-use Rattle.xdf_model.specs.Sample.{Sample}
-use Rattle.record_cli.specs.Feed.{most_samples, IsFirstFeed}
-use Rattle.record_cli.proofs.Errors.{handed}
-use Rattle.record_cli.proofs.Feeds.{AreSamples, not_behind, no_first, no_second, no_samples, feed_made}
+use Rattle.std.proofs.Common.{refl, sym, ap, ◌∙◌, subst, arith, ◌≡◌, ◌≤◌, ℕ, List, [], ◌∷◌, length, Err}
+use Rattle.std.proofs.lemmas.List.{length-append}
+use Rattle.xdf_model.specs.declared.types.Shape.{Shape}
+use Rattle.xdf_model.specs.Sample.{FitsShape}
+use Rattle.feed_samples.specs.Reader.{outlook}
+use Rattle.feed_samples.specs.declared.step.FeedStep.TheVariants as step
+use Rattle.record_cli.specs.Feed.{int16_shape, int16_feed}
+use Rattle.record_cli.proofs.Feeds.{begun_none, begun_by, fed_by, long_by}
+use Rattle.record_cli.proofs.Samples.{fits_more}
 use Rattle.record_cli.proofs.feed.read_feed.Goals as goal
 
-pub returns-in_default-clause-other : goal.returns-in_default-clause-other
-returns-in_default-clause-other c = λ _. not_behind c.args.text.now c.in_default.ensures
+pub loop-init : goal.loop-init
+loop-init g c =
+    let fresh = c.in_ok-reader.ensures.fresh in
+    rw c.new-samples.ensures rw c.in_ok-reader.ensures.source record {
+      begun = begun_none int16_feed (outlook c.in_ok-reader.reader.inlet) _ c.in_ok-reader.ensures.all;
+      going = fresh.0;
+      shape = fresh.2;
+      marked = refl;
+      later = omega arith;
+      fits = tt;
+      count = refl;
+    }
 
-pub returns-in_err-rest-clause-other : goal.returns-in_err-rest-clause-other
-returns-in_err-rest-clause-other c = λ e.
-    no_first c.args.text.now c.in-Some.rest.now c.in-Some.ensures (c.in_err-rest.ensures.other (handed c.from_residual.result c.in_err-rest.field-0.0 _ c.from_residual.ensures.1 e))
+pub returns-in-End-clause-fed : goal.returns-in-End-clause-fed
+returns-in-End-clause-fed g c =
+    let i = c.loop.invariant in
+    let k = fed_by int16_feed (outlook c.loop.reader.inlet) (outlook c.next.new.self.inlet) _ _ _ c.loop.samples c.in-End.end i.begun i.going c.in-End.ensures.answer in (
+      c.next.new.self.source,
+      record {
+        marked = c.in-End.ensures.marked ∙ i.marked;
+        later = omega (arith, c.in-End.ensures.later, i.later);
+        taken = k.0;
+        lost = k.1;
+        ends = k.2;
+        cause = λ e. omega (arith, c.in-End.ensures.cause i.going (ap step.End e), i.later);
+      },
+    )
 
-pub returns-in_err-rest-2-clause-other : goal.returns-in_err-rest-2-clause-other
-returns-in_err-rest-2-clause-other c = λ e.
-    let one = c.in_ok-rest.ensures.ok in
-    no_second c.args.text.now c.in-Some.rest.now c.in-Some.ensures one.0 one.1 c.in_ok-rest.rest.now one.2 one.3
-    (c.in_err-rest-2.ensures.other (handed c.from_residual-in_err-rest-2.result c.in_err-rest-2.field-0.0 _ c.from_residual-in_err-rest-2.ensures.1 e))
+pub returns-in-End-clause-fits : goal.returns-in-End-clause-fits
+returns-in-End-clause-fits g c = c.loop.invariant.fits
 
-pub returns-clause-ok : goal.returns-clause-ok
-returns-clause-ok c =
-    let one = c.in_ok-rest.ensures.ok in
-    let two = c.in_ok-rest-2.ensures.ok in
-    IfOk-weaker c.take_samples.result (λ (samples : List Sample). AreSamples samples c.in_ok-rest-2.rest.now × (length samples ≤ most_samples)) (λ samples. IsFirstFeed c.args.text.now samples)
-    (λ samples taken. feed_made c.args.text.now c.in-Some.rest.now c.in-Some.ensures one.0 one.1 c.in_ok-rest.rest.now one.2 one.3 two.0 two.1 c.in_ok-rest-2.rest.now two.2 two.3 samples taken.0 taken.1)
-    c.take_samples.ensures.ok
+pub returns-in-End-clause-few : goal.returns-in-End-clause-few
+returns-in-End-clause-few g c = omega (arith, c.loop.invariant.count, c.loop-test.true)
+
+pub loop-preserved : goal.loop-preserved
+loop-preserved g c =
+    let i = c.loop.invariant in
+    let s = c.in-Sample.sample in
+    let P : Shape → Type 0 = λ shape. FitsShape shape s in
+    record {
+      begun = begun_by int16_feed (outlook c.loop.reader.inlet) (outlook c.next.new.self.inlet) _ _ _ c.loop.samples c.push.new.self s i.begun c.in-Sample.ensures.answer c.in_ok-push-in-Sample.ensures.ok;
+      going = c.in-Sample.ensures.answer.gives.0;
+      shape = c.in-Sample.ensures.same_shape.0 ∙ i.shape;
+      marked = c.in-Sample.ensures.marked ∙ i.marked;
+      later = omega (arith, c.in-Sample.ensures.later, i.later);
+      fits = rw c.in_ok-push-in-Sample.ensures.ok (fits_more c.loop.samples s i.fits (subst P i.shape (c.in-Sample.ensures.fits s refl).0));
+      count = omega (arith, ap length c.in_ok-push-in-Sample.ensures.ok, length-append c.loop.samples (s ∷ []), i.count);
+    }
 
 pub returns-clause-other : goal.returns-clause-other
-returns-clause-other c = λ e.
-    let one = c.in_ok-rest.ensures.ok in
-    let two = c.in_ok-rest-2.ensures.ok in
-    no_samples c.args.text.now c.in-Some.rest.now c.in-Some.ensures one.0 one.1 c.in_ok-rest.rest.now one.2 one.3 two.0 two.1 c.in_ok-rest-2.rest.now two.2 two.3 (c.take_samples.ensures.other e)
+returns-clause-other g c = λ _.
+    let i = c.loop.invariant in
+    let many : length c.loop.samples ≡ 513 = omega (arith, i.count, c.loop-test.false, c.loop.auto.counter-end) in
+    (c.loop.reader.source, i.begun.taken, i.begun.lost, long_by _ _ _ c.loop.samples i.begun many)

@@ -1,10 +1,12 @@
-use Rattle.std.proofs.Common.{List, ℕ, [], ◌∷◌, length, subst, ap, ◌∙◌, sym}
+use Rattle.std.specs.Prelude.{string_bytes}
+use Rattle.std.specs.Fmt.{decimal}
+use Rattle.std.proofs.Common.{List, ℕ, [], ◌∷◌, ◌++◌, codes, length, subst, ap, ◌∙◌, sym}
 use Rattle.chunk_grammar.specs.Chunk.{IsFileText, least_file_text}
 use Rattle.recording_model.specs.declared.stream.StreamDoc.{StreamDoc}
 use Rattle.recording_model.specs.Batch.{one_batch}
 use Rattle.recording_model.specs.Recording.{IsRecording}
 use Rattle.record_cli.specs.Feed.{int16_shape}
-use Rattle.record_cli.specs.Recorded.{feed_line, recorded_line}
+use Rattle.record_cli.specs.Recorded.{recorded_line}
 use Rattle.std.specs.List.{AllByRecursion}
 use Rattle.chunk_grammar.specs.declared.chunk.Chunk.{Chunk}
 use Rattle.record_writer.specs.OneBatch.{one_chunks}
@@ -17,14 +19,17 @@ pub recording_text-requires-clause-stream : goal.recording_text-requires-clause-
 recording_text-requires-clause-stream c = rw c.in_ok-from_bytes.ensures stream_short
 
 pub recording_text-requires-clause-short : goal.recording_text-requires-clause-short
-recording_text-requires-clause-short c = texts_short c.args.samples c.requires.fits c.requires.few
+recording_text-requires-clause-short c = texts_short c.args.read.samples c.requires.fits c.requires.few
+
+abbrev pub line : ℕ → List ℕ → List ℕ
+line n words = codes "feed 1 received " ++ (decimal n ++ (codes " kept " ++ (decimal n ++ (codes " lost 0 end " ++ words))))
 
 pub returns : goal.returns
 returns c =
     let r = c.in_ok-text.ensures.recording in
     let cs = r.0 in
     let stream_of : List ℕ → StreamDoc = λ d. record { id = 1; doc = d; shape = int16_shape } in
-    let P : List ℕ → Type 0 = λ d. IsRecording (stream_of d ∷ []) (one_batch c.args.samples) cs in
+    let P : List ℕ → Type 0 = λ d. IsRecording (stream_of d ∷ []) (one_batch c.args.read.samples) cs in
     let Q : List ℕ → Type 0 = λ b. IsFileText cs b in
     let S : List Chunk → Type 0 = λ l. AllByRecursion IsShown l in
     let size = c.len-bytes.ensures ∙ c.in_ok-text.text.bytes.ok.0 ∙ ap length r.3 in (
@@ -32,7 +37,7 @@ returns c =
       subst P c.in_ok-from_bytes.ensures r.1,
       subst Q r.3 r.2,
       r.3,
-      c.in_ok-feed_line.ensures.ok ∙ ap feed_line c.len-received.ensures,
+      c.in_ok-feed_line.ensures.ok ∙ ap (λ (n : ℕ). line n (string_bytes c.in_ok-ended.ended)) c.len-received.ensures ∙ ap (line (length c.args.read.samples)) c.in_ok-ended.ensures,
       c.in_ok-recorded_line.ensures.ok ∙ ap (λ (n : ℕ). recorded_line n c.in_ok-text.text.chunks) size ∙ ap (recorded_line (length (least_file_text cs))) r.4,
-      shown_whole cs (least_file_text cs) (subst Q r.3 r.2) (subst S (sym (r.5 ∙ ap (λ (d : List ℕ). one_chunks (stream_of d) c.args.samples) c.in_ok-from_bytes.ensures)) (recording_shown c.args.samples)),
+      shown_whole cs (least_file_text cs) (subst Q r.3 r.2) (subst S (sym (r.5 ∙ ap (λ (d : List ℕ). one_chunks (stream_of d) c.args.read.samples) c.in_ok-from_bytes.ensures)) (recording_shown c.args.read.samples)),
     )

@@ -15,4 +15,9 @@ returns-in-Err-Usage-clause-fault_line g c = λ _.
 
 pub returns-in-Err-OtherForm-clause-other_form_alone : goal.returns-in-Err-OtherForm-clause-other_form_alone
 returns-in-Err-OtherForm-clause-other_form_alone g c = λ _ texts told.
-    other_is_alone (g.D.Dock.contents c.args.dock.now) texts c.args.words.now told (c.in-Err-OtherForm.ensures.other_form (ap Err c.in-Err-OtherForm.field-0-is))
+    other_is_alone _ (g.D.Dock.contents c.args.dock.now) texts c.args.words.now told (c.in-Err-OtherForm.ensures.other_form (ap Err c.in-Err-OtherForm.field-0-is))
+
+pub returns-in-Ok-clause-recorded : goal.returns-in-Ok-clause-recorded
+returns-in-Ok-clause-recorded g c = λ _.
+    let r = c.in-Ok.ensures.recorded in
+    (r.0, r.1, c.in-Ok.end, r.2, c.end_status.ensures, r.3, r.4, r.5, r.6)
