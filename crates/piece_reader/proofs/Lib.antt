@@ -1,0 +1,5 @@
+pub mod Fronts
+pub mod Steps
+pub mod Finals
+pub mod Carrying
+pub mod Collecting
