@@ -13,10 +13,12 @@
 
 mod chunk;
 mod context;
+mod fits;
 mod list;
 
 pub use chunk::{Chunk, tag_of_chunk};
 pub use context::{Context, CtxFault};
+pub use fits::chunk_fits;
 pub use list::SampleList;
 
 #[cfg(test)]
