@@ -2,8 +2,9 @@
 
 ghost use Rattle.std.specs.Prelude.{◌≡◌, ℕ, ◌-◌, ◌<◌, ◌≤◌, ◌++◌, ◌∷◌, [], List, length, take, slice_index};
 ghost use Rattle.chunk_grammar.specs.declared.chunk.Chunk.{Chunk};
-ghost use Rattle.chunk_grammar.specs.Chunk.{magic, IsFileText, AreChunkTexts, least_chunk_texts, least_file_text};
-ghost use Rattle.chunk_grammar.specs.Standing.{context_after_all, IsFront};
+ghost use Rattle.chunk_grammar.specs.Chunk.{Context, magic, IsFileText, AreChunkTexts, least_chunk_texts, least_file_text};
+ghost use Rattle.chunk_grammar.specs.Standing.{standing_at, whole, bad, context_after_all, IsFront};
+ghost use Rattle.xdf_model.specs.declared.types.Why.{Why};
 ghost use Rattle.file_model.specs.declared.next.Next.{Next};
 ghost use Rattle.file_model.specs.declared.next.Next.TheVariants.{End};
 ghost use Rattle.file_model.specs.Cut.{chunks_within, IsEndOrTorn};
@@ -57,4 +58,13 @@ pub fn written_file_is_read()
         → length (least_file_text cs) ≤ limit
         → AreReadings (least_file_text cs) limit
         (placed [] cs (least_chunk_texts [] cs) texts 4 ++ End (length (least_file_text cs)) ∷ []) }
+{}
+
+/// A whole chunk takes at least one byte, and no more than there are; a fault stands at one of the
+/// bytes or at their end.
+pub fn answers_stand_within()
+    ensures whole { (ctx : Context) (b : List ℕ) (c : Chunk) (used : ℕ) → ((i : ℕ) → slice_index b i < 256)
+        → standing_at ctx b ≡ whole c used → (0 < used) × (used ≤ length b) }
+    ensures bad { (ctx : Context) (b : List ℕ) (place : ℕ) (reason : Why) → ((i : ℕ) → slice_index b i < 256)
+        → standing_at ctx b ≡ bad place reason → place ≤ length b }
 {}

@@ -9,6 +9,7 @@
 mod laws;
 
 pub use laws::{
-    cut_file_yields_its_whole_chunks, file_has_a_front, file_has_readings, file_is_read_whole,
-    front_is_determined, least_file_is_a_file, readings_are_determined, written_file_is_read,
+    answers_stand_within, cut_file_yields_its_whole_chunks, file_has_a_front, file_has_readings,
+    file_is_read_whole, front_is_determined, least_file_is_a_file, readings_are_determined,
+    written_file_is_read,
 };
