@@ -6,6 +6,7 @@ use Rattle.xdf_model.specs.Shape.{behind_first, digits_front}
 use Rattle.shape_pattern.specs.declared.footer.Element.{Element}
 use Rattle.shape_pattern.specs.declared.footer.Element.TheVariants.{SampleCount, Overruns}
 
+-- the marks of an element (XDF, "StreamFooter chunk"; those of the overruns are this project's own)
 abbrev pub opening : Element → List ℕ
 opening SampleCount = codes "<sample_count>"
 opening Overruns = codes "<overruns>"
