@@ -1,0 +1,3 @@
+pub mod LeastChunks
+pub mod Spelled
+pub mod Room

@@ -7,16 +7,19 @@
 //!
 //! The code holds chunks, lists of samples and contexts. It promises that a stream joins a context
 //! only where its header may stand there, that else the answer is the first reason why not, and that
-//! want of memory leaves a context or a list as it was. A sample is moved into a list and lent out of
-//! it, and none of its bytes is copied.
+//! want of memory leaves a context or a list as it was. It tells whether a chunk has a text behind the
+//! streams of a context, exactly and without memory. A sample is moved into a list and lent out of it,
+//! and none of its bytes is copied.
 #![tactic(auto)]
 
 mod chunk;
 mod context;
+mod fits;
 mod list;
 
 pub use chunk::{Chunk, tag_of_chunk};
 pub use context::{Context, CtxFault};
+pub use fits::chunk_fits;
 pub use list::SampleList;
 
 #[cfg(test)]

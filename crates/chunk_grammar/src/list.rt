@@ -58,4 +58,10 @@ impl SampleList {
             None => None,
         }
     }
+
+    pub(crate) fn items(&self) -> &[Sample]
+        ensures { result.now ≡ self.now }
+    {
+        &self.items
+    }
 }

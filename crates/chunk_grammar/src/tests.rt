@@ -1,5 +1,5 @@
 use super::*;
-use rec_base::Blob;
+use rec_base::{Blob, Memory};
 use sample_values::{Format, Sample, Shape, Stamp};
 use std::test::Fail;
 
@@ -76,4 +76,105 @@ fn a_kind_has_its_tag(rt: HostRuntime) {
     ] {
         assert_eq!(rt; tag_of_chunk(&chunk), tag);
     }
+}
+
+#[test]
+fn a_chunk_fits_where_it_has_a_text(rt: HostRuntime) -> Result<(), Fail> {
+    let alloc = rt.alloc();
+    let doc = b"<channel_count>1</channel_count><channel_format>int16</channel_format>";
+    let blob = |bytes| Blob::from_bytes(alloc, bytes);
+    let samples = |bits| {
+        let mut sample = Sample::new(alloc, Stamp::None);
+        sample.push_bits(bits)?;
+        let mut samples = SampleList::new(alloc);
+        samples.push(sample)?;
+        Ok::<SampleList, Memory>(samples)
+    };
+    let mut ctx = Context::new(alloc);
+    ctx.context_add(7, doc)?;
+    for (chunk, want) in [
+        (Chunk::FileHeader { doc: blob(b"")? }, true),
+        (
+            Chunk::StreamHeader {
+                id: 8,
+                doc: blob(doc)?,
+            },
+            true,
+        ),
+        (
+            Chunk::StreamHeader {
+                id: 7,
+                doc: blob(doc)?,
+            },
+            false,
+        ),
+        (
+            Chunk::StreamHeader {
+                id: 8,
+                doc: blob(b"")?,
+            },
+            false,
+        ),
+        (
+            Chunk::Samples {
+                id: 7,
+                samples: samples(65535)?,
+            },
+            true,
+        ),
+        (
+            Chunk::Samples {
+                id: 7,
+                samples: samples(65536)?,
+            },
+            false,
+        ),
+        (
+            Chunk::Samples {
+                id: 8,
+                samples: samples(65535)?,
+            },
+            false,
+        ),
+        (
+            Chunk::ClockOffset {
+                id: 8,
+                time: 0,
+                offset: 0,
+            },
+            true,
+        ),
+        (Chunk::Boundary, true),
+        (
+            Chunk::StreamFooter {
+                id: 7,
+                doc: blob(b"")?,
+            },
+            true,
+        ),
+        (
+            Chunk::StreamFooter {
+                id: 8,
+                doc: blob(b"")?,
+            },
+            false,
+        ),
+        (
+            Chunk::Other {
+                tag: 7,
+                body: blob(b"")?,
+            },
+            true,
+        ),
+        (
+            Chunk::Other {
+                tag: 6,
+                body: blob(b"")?,
+            },
+            false,
+        ),
+    ] {
+        assert_eq!(rt; chunk_fits(&ctx, &chunk), want);
+    }
+    Ok(())
 }

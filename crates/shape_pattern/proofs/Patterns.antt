@@ -5,6 +5,7 @@ use Rattle.std.specs.Char.{is_ascii_digit, digit_value}
 use Rattle.std.specs.Str.Parse.{digits_value, AllDigits}
 use Rattle.std.proofs.lemmas.Bool.Decides.{nat_tests}
 use Rattle.std.proofs.lemmas.Int.Digits.{digits_value-lt, digits_value_push}
+use Rattle.std.proofs.Math.Nat.{pow-le-pow_right}
 use Rattle.std.proofs.lemmas.List.{take_more, length-take-le, length-drop, drop-drop, take_rest}
 use Rattle.xdf_model.specs.Shape.{behind_first}
 
@@ -49,22 +50,17 @@ digit_at (x ∷ ds) (suc i) all lt = digit_at ds i all.1 (omega arith)
 digit_is : (c : ℕ) → digit_value c < 10 → (48 ≤ c) × (c ≤ 57) × (digit_value c ≡ c - 48)
 digit_is c lt = (grind (arith, nat_tests), grind (arith, nat_tests), grind (arith, nat_tests))
 
-small_power : (i : ℕ) → i < 5 → 10 ^ i ≤ 10_000
-small_power zero lt = lit≤ tt
-small_power (suc zero) lt = lit≤ tt
-small_power (suc (suc zero)) lt = lit≤ tt
-small_power (suc (suc (suc zero))) lt = lit≤ tt
-small_power (suc (suc (suc (suc zero)))) lt = lit≤ tt
-small_power (suc (suc (suc (suc (suc i))))) lt = absurd (omega arith)
+small_power : (i : ℕ) → i < 20 → 10 ^ i ≤ 10_000_000_000_000_000_000
+small_power i lt = let within : i ≤ 19 = omega arith in let m : 10 ^ i ≤ 10 ^ 19 = pow-le-pow_right (lit≤ tt) within in m
 
 -- one more digit
 pub record Adds (ds : List ℕ) (i n : ℕ) : Type 0 where
   pub low : 48 ≤ get_or ds i 0
   pub high : get_or ds i 0 ≤ 57
-  pub small : n < 10_000
+  pub small : n < 10_000_000_000_000_000_000
   pub more : n * 10 + (get_or ds i 0 - 48) ≡ digits_value 10 (take (i + 1) ds)
 
-pub adds : (ds : List ℕ) (i n : ℕ) → AllDigits 10 ds → length ds ≤ 5 → i < length ds → n ≡ digits_value 10 (take i ds) → Adds ds i n
+pub adds : (ds : List ℕ) (i n : ℕ) → AllDigits 10 ds → length ds ≤ 20 → i < length ds → n ≡ digits_value 10 (take i ds) → Adds ds i n
 adds ds i n all few lt so_far =
     let c = get_or ds i 0 in
     let d = digit_is c (digit_at ds i all lt) in

@@ -1,7 +1,7 @@
 use Rattle.std.proofs.Common.{◌≡◌, ◌+◌, drop, take, length}
 use Rattle.std.specs.Str.Parse.{AllDigits}
 use Rattle.xdf_model.specs.Shape.{digits_front}
-use Rattle.shape_pattern.proofs.digits.Given as goal
+use Rattle.shape_pattern.proofs.front.digits.Given as goal
 
 abbrev pub invariant-loop-i : goal.invariant-loop-i
 invariant-loop-i l = record {

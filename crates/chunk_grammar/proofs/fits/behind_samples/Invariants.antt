@@ -1,0 +1,10 @@
+use Rattle.std.proofs.Common.{◌≡◌, ◌+◌, length, take}
+use Rattle.std.specs.List.{flat_map, AllByRecursion}
+use Rattle.xdf_model.specs.Sample.{FitsShape, least_sample_text}
+use Rattle.chunk_grammar.proofs.fits.behind_samples.Given as goal
+
+abbrev pub invariant-loop-sample : goal.invariant-loop-sample
+invariant-loop-sample l = record {
+  fits : AllByRecursion (FitsShape l.shape) (take l.sample-index l.samples);
+  room : l.left + length (flat_map (least_sample_text l.shape) (take l.sample-index l.samples)) ≡ l.room;
+}
