@@ -161,11 +161,10 @@ names_output out words = is_feed words && (has_word 3 out words || (is_file word
 
 -- ---- the table
 
--- what may be wrong with a line by itself, the first first
-abbrev pub own_refusals : List ℕ → Words → List (Bool × PlanWhy)
-own_refusals line words =
-    (is_no_text line, NotText)
-    ∷ (is_unknown words, UnknownWord)
+-- what may be wrong with the words of a line by themselves, the first first
+abbrev pub word_refusals : Words → List (Bool × PlanWhy)
+word_refusals words =
+    (is_unknown words, UnknownWord)
     ∷ (has_wrong_count words, WrongCount)
     ∷ (has_bad_kind words, BadKind)
     ∷ (has_wrong_feed_count words, WrongCount)
@@ -181,6 +180,11 @@ later_refusals out before words =
     ∷ (names_output out words, OutputNamed)
     ∷ []
 
--- the first reason against a line that says something, where the lines before it were accepted
+-- all that may be wrong with a line that says something, where the lines before it were accepted
+abbrev pub refusals : List ℕ → List Words → List ℕ → List (Bool × PlanWhy)
+refusals out before line =
+    (is_no_text line, NotText) ∷ (word_refusals (words_in line) ++ later_refusals out before (words_in line))
+
+-- the first of them that is so
 unfoldable pub line_refusal : List ℕ → List Words → List ℕ → Option PlanWhy
-line_refusal out before line = first_that_holds (own_refusals line (words_in line) ++ later_refusals out before (words_in line))
+line_refusal out before line = first_that_holds (refusals out before line)
