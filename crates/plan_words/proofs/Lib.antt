@@ -1,4 +1,5 @@
 pub mod Cuts
 pub mod Numbers
 pub mod Texts
+pub mod Found
 pub mod ByKind

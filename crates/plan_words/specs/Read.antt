@@ -1,5 +1,5 @@
 -- What is read of a line of a plan by itself.
-use Rattle.std.specs.Prelude.{◌≡◌, ℕ, ◌+◌, ◌==◌, ◌||◌, ◌&&◌, Bool, not, List, [], ◌∷◌, length, Option, Some, None, Result, Ok, Err, nat_lt, if◌then◌else◌, codes}
+use Rattle.std.specs.Prelude.{◌≡◌, ℕ, true, false, ◌+◌, ◌==◌, ◌||◌, ◌&&◌, Bool, not, List, [], ◌∷◌, length, Option, Some, None, Result, Ok, Err, nat_lt, if◌then◌else◌, codes}
 use Rattle.std.specs.List.{list_any}
 use Rattle.plan_model.specs.declared.why.PlanWhy.{PlanWhy}
 use Rattle.plan_model.specs.declared.why.PlanWhy.TheVariants.{WrongCount, BadNumber, BadKind}
@@ -14,8 +14,9 @@ use Rattle.plan_words.specs.declared.line.PlanLine.TheVariants.{Ring, Batch, Mod
 use Rattle.plan_words.specs.declared.line.FeedForm.{FeedForm}
 
 -- the number that a word writes, where it is one up to the most that it may be
-unfoldable pub number_up_to : ℕ → List ℕ → Option ℕ
-number_up_to most text = if is_number most text then Some (number text) else None
+abbrev pub IsNumber : ℕ → List ℕ → Option ℕ → Type 0
+IsNumber most text None = is_number most text ≡ false
+IsNumber most text (Some n) = (is_number most text ≡ true) × (n ≡ number text)
 
 -- a reader's answer is the value, where nothing is refused, or the refusal, unless memory ran out
 abbrev pub Reads : {A : Type 0} → Result A LineFault → Option PlanWhy → A → Type 0

@@ -119,7 +119,7 @@ fn read_limit(words: &LineWords, limited: bool) -> Result<Option<u64>, LineFault
     requires { limited ≡ has_limit words.now }
     ensures { Reads result (limit_refusal words.now) (limit_of words.now) }
 {
-    if !limited || words.len() == 0 {
+    if !limited {
         return Ok(None);
     }
     match read_number(words.get(words.len() - 1), 1_099_511_627_776) {
