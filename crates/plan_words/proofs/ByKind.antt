@@ -16,10 +16,13 @@ use Rattle.plan_model.specs.declared.why.PlanWhy.TheVariants.{UnknownWord, Wrong
 use Rattle.plan_model.specs.Table.{first_that_holds}
 use Rattle.plan_model.specs.Text.{Words}
 use Rattle.plan_model.specs.PlanLine.{word, has_word, number, is_ring, is_batch, is_mode, is_feed, is_file, is_tcp, has_limit, ring_limit, batch_limit, id_limit, is_number, is_unknown, has_wrong_count, has_bad_kind, has_wrong_feed_count, has_no_limit_word, has_bad_number, port_number, limit_number, numbers_in, from_of, limit_of, feed_of}
+use Rattle.plan_model.specs.declared.plan.Mode.{Mode as ModeValue}
+use Rattle.plan_model.specs.Plan.{mode_of}
+use Rattle.plan_words.specs.declared.line.PlanLine.TheVariants.{Ring, Batch, Mode}
 use Rattle.plan_words.specs.declared.line.FeedForm.{FeedForm}
 use Rattle.plan_words.specs.declared.fault.LineFault.{LineFault}
 use Rattle.plan_words.specs.declared.fault.LineFault.TheVariants.{Refused, Memory}
-use Rattle.plan_words.specs.Read.{own_refusal, setting_refusal, mode_refusal, count_refusal, form_refusal, port_refusal, limit_refusal, bad_among, form_of, Reads}
+use Rattle.plan_words.specs.Read.{own_refusal, setting_refusal, mode_refusal, count_refusal, form_refusal, port_refusal, limit_refusal, bad_among, form_of, Reads, line_of}
 
 -- a word that is one isn't another
 pub apart : (w a b : List ℕ) → bytes_eq w a ≡ true → bytes_eq a b ≡ false → bytes_eq w b ≡ false
@@ -199,3 +202,14 @@ feed_taken words feed form id port limit =
 pub feed_is : (words : Words) (id : ℕ) (doc : List ℕ) (from : FeedFrom) (limit : Option ℕ) → id ≡ number (word 1 words) → doc ≡ word 3 words → from ≡ from_of words → limit ≡ limit_of words → record { id = id; doc = doc; from = from; limit = limit } ≡ feed_of words
 unfolding feed_of
 feed_is words id doc from limit a b c d = rw (a, b, c, d) refl
+
+-- ---- what a line says
+
+pub ring_is : (words : Words) (n : ℕ) → is_ring words ≡ true → n ≡ number (word 1 words) → Ring n ≡ line_of words
+ring_is words n ring e = rw (ring, e) refl
+
+pub batch_is : (words : Words) (n : ℕ) → is_ring words ≡ false → is_batch words ≡ true → n ≡ number (word 1 words) → Batch n ≡ line_of words
+batch_is words n ring batch e = rw (ring, batch, e) refl
+
+pub mode_is : (words : Words) (mode : ModeValue) → is_ring words ≡ false → is_batch words ≡ false → is_mode words ≡ true → mode ≡ mode_of (word 1 words) → Mode mode ≡ line_of words
+mode_is words mode ring batch is e = rw (ring, batch, is, e) refl

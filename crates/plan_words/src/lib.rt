@@ -6,14 +6,18 @@
 //! byte of a plan is read a fixed number of times, and what a plan names is copied once.
 #![tactic(auto)]
 
+mod command;
 mod draft;
 mod fault;
 mod line;
 mod number;
 mod plan;
+mod reason;
 mod text;
 mod words;
 
 
+pub use command::{Command, Usage, read_words};
 pub use plan_model::{FeedFrom, FeedLine, FeedLines, Mode, Plan, PlanWhy, Top};
+pub use reason::why_number;
 pub use rec_base::{Memory, Word};
