@@ -12,7 +12,7 @@ use Rattle.plan_model.specs.declared.plan.FeedFrom.TheVariants.{File, Tcp}
 use Rattle.plan_model.specs.declared.plan.FeedLine.{FeedLine}
 use Rattle.plan_model.specs.declared.plan.Plan.{Plan}
 use Rattle.plan_model.specs.Table.{first_that_holds}
-use Rattle.plan_model.specs.Text.{Words, words_in}
+use Rattle.plan_model.specs.Text.{Words, words_in, is_skipped}
 use Rattle.plan_model.specs.PlanLine.{number, feeds_in, given, is_no_text}
 use Rattle.plan_model.specs.Plan.{mode_of, Refusal, unless}
 use Rattle.plan_words.specs.declared.fault.LineFault.{LineFault}
@@ -96,3 +96,7 @@ finished draft = record {
   mode = unwrap_or draft.mode Threads;
   feeds = draft.feeds;
 }
+
+-- a line of this number more, if it says something
+unfoldable pub stepped : List ℕ → Draft → ℕ → List ℕ → Result Draft Refusal
+stepped out draft n line = if is_skipped line then Ok draft else unless (refused_with out draft line) n (Ok (with_text draft line))

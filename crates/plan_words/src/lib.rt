@@ -18,6 +18,7 @@ mod words;
 
 
 pub use command::{Command, Usage, read_words};
+pub use plan::{PlanError, read_plan};
 pub use plan_model::{FeedFrom, FeedLine, FeedLines, Mode, Plan, PlanWhy, Top};
 pub use reason::why_number;
 pub use rec_base::{Memory, Word};
