@@ -5,11 +5,12 @@ use Rattle.std.specs.Option.{option_map, option_or, option_map_or}
 use Rattle.std.specs.List.{list_any, filter, find}
 use Rattle.std.specs.Str.{bytes_eq}
 use Rattle.std.specs.Cmp.Lexicographic.{bytes_decides}
+use Rattle.std.proofs.lemmas.Bool.{ne_eqb}
 use Rattle.std.proofs.lemmas.List.{append-nil, map-append}
 use Rattle.std.proofs.lemmas.List.Folds.{find-append}
 use Rattle.std.proofs.lemmas.List.Elements.{filter-append}
 use Rattle.plan_model.specs.declared.why.PlanWhy.{PlanWhy}
-use Rattle.plan_model.specs.declared.why.PlanWhy.TheVariants.{UnknownWord, WrongCount, BadKind, BadNumber, Repeated, TooManyFeeds, OutputNamed, NotText, NoFeed}
+use Rattle.plan_model.specs.declared.why.PlanWhy.TheVariants.{UnknownWord, WrongCount, BadKind, BadNumber, Repeated, TooManyFeeds, OutputNamed, NotText, NoFeed, TooLong}
 use Rattle.plan_model.specs.declared.plan.Mode.TheVariants.{Threads}
 use Rattle.plan_model.specs.declared.plan.FeedLine.{FeedLine}
 use Rattle.plan_model.specs.declared.plan.Plan.{Plan}
@@ -152,14 +153,134 @@ not_once : (b : Bool) → once b ≡ None → b ≡ false
 not_once true e = absurd cc
 not_once false e = refl
 
+beside_ring : (out : List ℕ) (before : List Words) (words : Words) → is_ring words ≡ true → refused_beside out (draft_of before) (line_of words) ≡ once (is_some (given (codes "ring") before))
+unfolding draft_of
+beside_ring out before words r = rw (r, is_some-map number (given (codes "ring") before)) refl
+
+beside_batch : (out : List ℕ) (before : List Words) (words : Words) → is_ring words ≡ false → is_batch words ≡ true → refused_beside out (draft_of before) (line_of words) ≡ once (is_some (given (codes "batch") before))
+unfolding draft_of
+beside_batch out before words r b = rw (r, b, is_some-map number (given (codes "batch") before)) refl
+
+beside_mode : (out : List ℕ) (before : List Words) (words : Words) → is_ring words ≡ false → is_batch words ≡ false → is_mode words ≡ true → refused_beside out (draft_of before) (line_of words) ≡ once (is_some (given (codes "mode") before))
+unfolding draft_of
+beside_mode out before words r b m = rw (r, b, m, is_some-map mode_of (given (codes "mode") before)) refl
+
 added : (out : List ℕ) (before : List Words) (words : Words) → Kind words → refused_beside out (draft_of before) (line_of words) ≡ None → with_line (draft_of before) (line_of words) ≡ draft_of (before ++ words ∷ [])
 unfolding draft_of
-added out before words (a_ring r b m f) e = ?
-added out before words (a_batch r b m f) e = ?
-added out before words (a_mode r b m f) e = ?
+added out before words (a_ring r b m f) e =
+    let free = not_once (is_some (given (codes "ring") before)) (sym (beside_ring out before words r) ∙ e) in
+    let ring : given (codes "ring") (before ++ words ∷ []) ≡ Some (word 1 words) = first_given (codes "ring") before words r free in
+    let batch : given (codes "batch") (before ++ words ∷ []) ≡ given (codes "batch") before = not_given (codes "batch") before words b in
+    let mode : given (codes "mode") (before ++ words ∷ []) ≡ given (codes "mode") before = not_given (codes "mode") before words m in
+    let feeds : feeds_in (before ++ words ∷ []) ≡ feeds_in before = same_feeds before words f in
+    rw (r, ring, batch, mode, feeds) refl
+added out before words (a_batch r b m f) e =
+    let free = not_once (is_some (given (codes "batch") before)) (sym (beside_batch out before words r b) ∙ e) in
+    let ring : given (codes "ring") (before ++ words ∷ []) ≡ given (codes "ring") before = not_given (codes "ring") before words r in
+    let batch : given (codes "batch") (before ++ words ∷ []) ≡ Some (word 1 words) = first_given (codes "batch") before words b free in
+    let mode : given (codes "mode") (before ++ words ∷ []) ≡ given (codes "mode") before = not_given (codes "mode") before words m in
+    let feeds : feeds_in (before ++ words ∷ []) ≡ feeds_in before = same_feeds before words f in
+    rw (r, b, ring, batch, mode, feeds) refl
+added out before words (a_mode r b m f) e =
+    let free = not_once (is_some (given (codes "mode") before)) (sym (beside_mode out before words r b m) ∙ e) in
+    let ring : given (codes "ring") (before ++ words ∷ []) ≡ given (codes "ring") before = not_given (codes "ring") before words r in
+    let batch : given (codes "batch") (before ++ words ∷ []) ≡ given (codes "batch") before = not_given (codes "batch") before words b in
+    let mode : given (codes "mode") (before ++ words ∷ []) ≡ Some (word 1 words) = first_given (codes "mode") before words m free in
+    let feeds : feeds_in (before ++ words ∷ []) ≡ feeds_in before = same_feeds before words f in
+    rw (r, b, m, ring, batch, mode, feeds) refl
 added out before words (a_feed r b m f) e =
     let ring : given (codes "ring") (before ++ words ∷ []) ≡ given (codes "ring") before = not_given (codes "ring") before words r in
     let batch : given (codes "batch") (before ++ words ∷ []) ≡ given (codes "batch") before = not_given (codes "batch") before words b in
     let mode : given (codes "mode") (before ++ words ∷ []) ≡ given (codes "mode") before = not_given (codes "mode") before words m in
     let feeds : feeds_in (before ++ words ∷ []) ≡ feeds_in before ++ feed_of words ∷ [] = feeds_more before words true f in
     rw (r, b, m, ring, batch, mode, feeds) refl
+
+-- ---- all lines
+
+or_by : (own beside later : Option PlanWhy) → (own ≡ None → beside ≡ later) → option_or own beside ≡ option_or own later
+or_by None beside later same = same refl
+or_by (Some why) beside later same = refl
+
+text_by : (b : Bool) (own beside later : Option PlanWhy) → (own ≡ None → beside ≡ later) → option_or (cond b (Some NotText) own) beside ≡ cond b (Some NotText) (option_or own later)
+text_by true own beside later same = refl
+text_by false own beside later same = or_by own beside later same
+
+beside_same : (out : List ℕ) (before : List Words) (words : Words) → own_refusal words ≡ None → refused_beside out (draft_of before) (line_of words) ≡ first_that_holds (later_refusals out before words)
+beside_same out before words own = let a = accepted_line words own in beside_by out before words (kind_of words a.known) a.right_kind
+
+-- a line is refused as the table says
+same_refusal : (out : List ℕ) (before : List Words) (line : List ℕ) → refused_with out (draft_of before) line ≡ line_refusal out before line
+unfolding refused_with line_refusal own_refusal
+same_refusal out before line =
+    let words = words_in line in
+    text_by (is_no_text line) (own_refusal words) (refused_beside out (draft_of before) (line_of words)) (first_that_holds (later_refusals out before words)) (beside_same out before words)
+    ∙ ap (λ (o : Option PlanWhy). cond (is_no_text line) (Some NotText) o) (sym (first-append (word_refusals words) (later_refusals out before words)))
+
+own_none : (b : Bool) (own beside : Option PlanWhy) → option_or (cond b (Some NotText) own) beside ≡ None → (own ≡ None) × (beside ≡ None)
+own_none true own beside e = absurd cc
+own_none false None beside e = (refl, e)
+own_none false (Some why) beside e = absurd cc
+
+same_draft : (out : List ℕ) (before : List Words) (line : List ℕ) → refused_with out (draft_of before) line ≡ None → with_text (draft_of before) line ≡ draft_of (before ++ words_in line ∷ [])
+unfolding refused_with with_text
+same_draft out before line e =
+    let words = words_in line in
+    let n = own_none (is_no_text line) (own_refusal words) (refused_beside out (draft_of before) (line_of words)) e in
+    added out before words (kind_of words (accepted_line words n.0).known) n.1
+
+abbrev drafts : Result (List Words) Refusal → Result Draft Refusal
+drafts (Ok lines) = Ok (draft_of lines)
+drafts (Err refusal) = Err refusal
+
+one_line : (out : List ℕ) (before : List Words) (x : ℕ × List ℕ) (lines : List (ℕ × List ℕ)) (o : Option PlanWhy) → line_refusal out before x.1 ≡ o
+    → drafted out (draft_of (before ++ words_in x.1 ∷ [])) lines ≡ drafts (accepted out (before ++ words_in x.1 ∷ []) lines)
+    → unless (refused_with out (draft_of before) x.1) x.0 (drafted out (with_text (draft_of before) x.1) lines) ≡ drafts (unless (line_refusal out before x.1) x.0 (accepted out (before ++ words_in x.1 ∷ []) lines))
+one_line out before x lines None e more =
+    let r : refused_with out (draft_of before) x.1 ≡ None = same_refusal out before x.1 ∙ e in
+    let d = same_draft out before x.1 r in
+    rw (r, e, d) more
+one_line out before x lines (Some why) e more =
+    let r : refused_with out (draft_of before) x.1 ≡ Some why = same_refusal out before x.1 ∙ e in
+    rw (r, e) refl
+
+all_lines : (out : List ℕ) (before : List Words) (lines : List (ℕ × List ℕ)) → drafted out (draft_of before) lines ≡ drafts (accepted out before lines)
+unfolding drafted accepted
+all_lines out before [] = refl
+all_lines out before (x ∷ lines) = one_line out before x lines (line_refusal out before x.1) refl (all_lines out (before ++ words_in x.1 ∷ []) lines)
+
+-- ---- the plan
+
+unwrap_map : {A B : Type 0} (f : A → B) (o : Option A) (d : B) → unwrap_or (option_map f o) d ≡ option_map_or f o d
+unwrap_map f None d = refl
+unwrap_map f (Some x) d = refl
+
+plan_is : (lines : List Words) → plan_of lines ≡ finished (draft_of lines)
+unfolding plan_of draft_of
+plan_is lines = rw (unwrap_map number (given (codes "ring") lines) 4096, unwrap_map number (given (codes "batch") lines) 512, unwrap_map mode_of (given (codes "mode") lines) Threads) refl
+
+-- the plan of what all lines say
+abbrev pub ended : Result Draft Refusal → Result Plan Refusal
+ended (Ok draft) = cond (nat_eq (length draft.feeds) 0) (Err (0, why_number NoFeed)) (Ok (finished draft))
+ended (Err refusal) = Err refusal
+
+feeds_of_draft : (lines : List Words) → (draft_of lines).feeds ≡ feeds_in lines
+unfolding draft_of
+feeds_of_draft lines = refl
+
+same_end : (read : Result (List Words) Refusal) → with_feed read ≡ ended (drafts read)
+same_end (Ok lines) = let e = plan_is lines in let f : (draft_of lines).feeds ≡ feeds_in lines = feeds_of_draft lines in rw (e, f) refl
+same_end (Err refusal) = refl
+
+pub plan_of_lines : (text out : List ℕ) → nat_lt text_limit (length text) ≡ false → plan_in text out ≡ ended (drafted out (draft_of []) (said_lines text))
+unfolding plan_in
+plan_of_lines text out short = rw short (same_end (accepted out [] (said_lines text)) ∙ ap ended (sym (all_lines out [] (said_lines text))))
+
+pub too_long : (text out : List ℕ) → nat_lt text_limit (length text) ≡ true → plan_in text out ≡ Err (0, why_number TooLong)
+unfolding plan_in
+too_long text out long = rw long refl
+
+pub no_feed : (draft : Draft) → length draft.feeds ≡ 0 → ended (Ok draft) ≡ Err (0, why_number NoFeed)
+no_feed draft none = rw none refl
+
+pub some_feed : (draft : Draft) → (length draft.feeds ≡ 0 → ⊥) → ended (Ok draft) ≡ Ok (finished draft)
+some_feed draft some = let e : nat_eq (length draft.feeds) 0 ≡ false = ne_eqb (length draft.feeds) 0 some in rw e refl

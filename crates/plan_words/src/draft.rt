@@ -45,9 +45,11 @@ fn has_id(feeds: &FeedLines, id: u32) -> bool
     ensures { result ≡ list_any (λ feed. feed.id == id) feeds.now }
 {
     for i in 0..feeds.len() {
-        match feeds.get(i) {
-            Some(feed) if feed.id == id => return true,
-            _ => {}
+        let Some(feed) = feeds.get(i) else {
+            return false;
+        };
+        if feed.id == id {
+            return true;
         }
     }
     false

@@ -22,3 +22,6 @@ pub use plan::{PlanError, read_plan};
 pub use plan_model::{FeedFrom, FeedLine, FeedLines, Mode, Plan, PlanWhy, Top};
 pub use reason::why_number;
 pub use rec_base::{Memory, Word};
+
+#[cfg(test)]
+mod tests;
