@@ -1,0 +1,5 @@
+pub mod Table
+pub mod Text
+pub mod PlanLine
+pub mod Plan
+pub mod Commands

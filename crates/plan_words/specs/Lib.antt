@@ -1,0 +1,4 @@
+pub mod Read
+pub mod Drafts
+pub mod Tells
+pub mod Commands
