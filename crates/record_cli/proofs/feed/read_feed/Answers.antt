@@ -2,7 +2,7 @@ use Rattle.std.proofs.Common.{refl, sym, ap, ◌∙◌, subst, arith, ◌≡◌,
 use Rattle.std.proofs.lemmas.List.{length-append}
 use Rattle.xdf_model.specs.declared.types.Shape.{Shape}
 use Rattle.xdf_model.specs.Sample.{FitsShape}
-use Rattle.feed_samples.specs.Reader.{outlook}
+use Rattle.feed_samples.specs.Inlet.{outlook}
 use Rattle.feed_samples.specs.declared.step.FeedStep.TheVariants as step
 use Rattle.record_cli.specs.Feed.{int16_shape, int16_feed}
 use Rattle.record_cli.proofs.Feeds.{begun_none, begun_by, fed_by, long_by}
@@ -54,7 +54,7 @@ loop-preserved g c =
       shape = c.in-Sample.ensures.same_shape.0 ∙ i.shape;
       marked = c.in-Sample.ensures.marked ∙ i.marked;
       later = omega (arith, c.in-Sample.ensures.later, i.later);
-      fits = rw c.in_ok-push-in-Sample.ensures.ok (fits_more c.loop.samples s i.fits (subst P i.shape (c.in-Sample.ensures.fits s refl).0));
+      fits = rw c.in_ok-push-in-Sample.ensures.ok (fits_more c.loop.samples s i.fits (subst P i.shape c.in-Sample.ensures.fits.0));
       count = omega (arith, ap length c.in_ok-push-in-Sample.ensures.ok, length-append c.loop.samples (s ∷ []), i.count);
     }
 

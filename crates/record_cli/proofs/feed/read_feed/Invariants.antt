@@ -1,7 +1,7 @@
 use Rattle.std.proofs.Common.{◌≡◌, ◌≤◌, false, length}
 use Rattle.std.specs.List.{AllByRecursion}
 use Rattle.xdf_model.specs.Sample.{FitsShape}
-use Rattle.feed_samples.specs.Reader.{outlook}
+use Rattle.feed_samples.specs.Inlet.{outlook}
 use Rattle.record_cli.specs.Feed.{int16_shape, int16_feed}
 use Rattle.record_cli.proofs.Feeds.{Begun}
 use Rattle.record_cli.proofs.feed.read_feed.Given as goal
