@@ -1,5 +1,5 @@
 -- Where contents are told, inputs that are of the form aren't of another one.
-use Rattle.std.proofs.Common.{◌≡◌, ℕ, ◌<◌, ◌≤◌, List, length, Some, Ok, Option, Result, inl, inr, ap, subst, arith}
+use Rattle.std.proofs.Common.{◌≡◌, ℕ, ◌<◌, List, length, Some, Ok, Option, Result, inl, inr, ap, subst, arith}
 use Rattle.rec_base.specs.Contents.{Contents, IsInput}
 use Rattle.rec_base.specs.declared.name.Name.TheVariants.{File}
 use Rattle.record_cli.specs.Words.{record_words}

@@ -1,17 +1,17 @@
 -- Samples of a feed, as a loop gets them of a reader, and what they are of the bytes at the feed's name.
-use Rattle.std.proofs.Common.{◌≡◌, ℕ, ◌+◌, ◌<◌, ◌≤◌, Bool, true, false, IsTrue, List, [], ◌∷◌, ◌++◌, length, Option, None, Some, inl, inr, refl, sym, ap, ◌∙◌, subst, append_assoc, arith}
+use Rattle.std.proofs.Common.{◌≡◌, ℕ, ◌<◌, Bool, false, IsTrue, List, [], ◌∷◌, ◌++◌, length, Option, None, Some, inl, inr, refl, sym, ap, ◌∙◌, subst, append_assoc, arith}
 use Rattle.std.specs.Prelude.{◌⊎◌, slice_get}
 use Rattle.std.proofs.lemmas.List.{append-nil, length-append}
 use Rattle.std.specs.Io.KnownBytes.{Consumes, IsAtEnd}
 use Rattle.std.proofs.KnownBytes.{Consumes-nil, Consumes-trans}
 use Rattle.rec_base.specs.Contents.{Contents, IsOpened}
 use Rattle.rec_base.specs.declared.name.Name.{Name}
-use Rattle.reading_model.specs.Outlook.{How, ended, failed, All, Outlook, item, end, first, Kind, final, at_end, at_fault, at_limit, EndsBy, Answered}
+use Rattle.reading_model.specs.Outlook.{How, ended, failed, All, Outlook, item, end, Kind, final, at_end, at_fault, at_limit, EndsBy, Answered}
 use Rattle.xdf_model.specs.Sample.{Sample}
 use Rattle.inlet_model.specs.declared.end.FeedEnd.{FeedEnd}
 use Rattle.inlet_model.specs.declared.end.FeedEnd.TheVariants as ends
 use Rattle.inlet_model.specs.Inlet.{feed_kind}
-use Rattle.inlet_model.specs.Fed.{Feed, EndsSo, IsFed}
+use Rattle.inlet_model.specs.Fed.{Feed, EndsSo}
 use Rattle.record_cli.specs.Feed.{int16_feed, int16_within, most_samples, IsFedOf, IsTold, HasMore}
 
 -- ---- calls, one after the other

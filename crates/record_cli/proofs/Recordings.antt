@@ -1,6 +1,5 @@
 -- A recording by its parts, and what a dock that was kept so far still has.
 use Rattle.std.proofs.Common.{◌≡◌, ℕ, List, ◌∷◌, [], ◌++◌, Option, Ok, subst, sym, ap, ◌∙◌}
-use Rattle.std.specs.Prelude.{Result, OnErr, IsErrOf}
 use Rattle.std.specs.Io.KnownBytes.{Appends}
 use Rattle.rec_base.specs.Causes.{Rose}
 use Rattle.rec_base.specs.Contents.{Contents}

@@ -1,5 +1,5 @@
 -- How the end of a feed is printed. This project's own.
-use Rattle.std.specs.Prelude.{ℕ, Bool, true, false, List, [], ◌∷◌, ◌++◌, codes, if◌then◌else◌}
+use Rattle.std.specs.Prelude.{ℕ, Bool, true, false, List, ◌++◌, codes, if◌then◌else◌}
 use Rattle.std.specs.Fmt.{decimal}
 use Rattle.feed_reply.specs.Reasons.{reason_number}
 use Rattle.inlet_model.specs.declared.end.FeedEnd.{FeedEnd}

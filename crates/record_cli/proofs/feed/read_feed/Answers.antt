@@ -1,10 +1,10 @@
-use Rattle.std.proofs.Common.{refl, sym, ap, ◌∙◌, subst, arith, ◌≡◌, ◌≤◌, ℕ, List, [], ◌∷◌, length, Err}
+use Rattle.std.proofs.Common.{refl, ap, ◌∙◌, subst, arith, ◌≡◌, [], ◌∷◌, length}
 use Rattle.std.proofs.lemmas.List.{length-append}
 use Rattle.xdf_model.specs.declared.types.Shape.{Shape}
 use Rattle.xdf_model.specs.Sample.{FitsShape}
 use Rattle.feed_samples.specs.Inlet.{outlook}
 use Rattle.feed_samples.specs.declared.step.FeedStep.TheVariants as step
-use Rattle.record_cli.specs.Feed.{int16_shape, int16_feed}
+use Rattle.record_cli.specs.Feed.{int16_feed}
 use Rattle.record_cli.proofs.Feeds.{begun_none, begun_by, fed_by, long_by}
 use Rattle.record_cli.proofs.Samples.{fits_more}
 use Rattle.record_cli.proofs.feed.read_feed.Goals as goal
