@@ -9,10 +9,13 @@
 mod fault;
 mod fields;
 mod read;
+mod scan;
 mod values;
 
 pub use feed_reply::Order;
 pub use read::{SampleRead, read_feed_sample};
 
+#[cfg(test)]
+mod scan_tests;
 #[cfg(test)]
 mod tests;
