@@ -11,6 +11,7 @@ mod fields;
 mod kept;
 mod read;
 mod reader;
+mod scan;
 mod stage;
 mod step;
 mod values;
@@ -21,5 +22,7 @@ pub use read::{SampleRead, read_feed_sample};
 pub use reader::FeedReader;
 pub use step::FeedStep;
 
+#[cfg(test)]
+mod scan_tests;
 #[cfg(test)]
 mod tests;
