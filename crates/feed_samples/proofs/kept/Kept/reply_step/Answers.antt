@@ -16,6 +16,11 @@ invariant_of-self c =
     let rest = ap (λ (h : HeldBytes). length h.bytes) c.pass.ensures in
     let counted = ap length (c.counted-bytes.ensures ∙ ap (take (i.byte_limit - i.place)) c.bytes.ensures) in
     let used = c.in-Done.ensures.within in
-    let take_size = length-take (i.byte_limit - i.place) i.held.bytes in
-    (tt, omega (arith, c.self.invariant.1), omega (arith, used, counted, take_size, c.self.invariant.2), c.self.invariant.3, omega (arith, rest, used, counted, take_size, length-drop c.in-Done.used i.held.bytes, c.self.invariant.4),
-      c.new-self-inside.ensures i.shape c.in-Done.reply.order _)
+    let take_size = length-take (i.byte_limit - i.place) i.held.bytes in (
+      tt,
+      omega (arith, c.self.invariant.1),
+      omega (arith, used, counted, take_size, c.self.invariant.2),
+      c.self.invariant.3,
+      omega (arith, rest, used, counted, take_size, length-drop c.in-Done.used i.held.bytes, c.self.invariant.4),
+      c.new-self-inside.ensures i.shape c.in-Done.reply.order _,
+    )

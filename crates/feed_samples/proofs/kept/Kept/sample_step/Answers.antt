@@ -14,10 +14,14 @@ pub invariant_of-self-in-Whole : goal.invariant_of-self-in-Whole
 invariant_of-self-in-Whole c =
     let i = c.self.inside in
     let size = used_within i.shape c.args.order c.counted-bytes.result.now i.held.bytes (i.byte_limit - i.place) c.in-Whole.used c.in-Whole.sample (c.counted-bytes.ensures ∙ ap (take (i.byte_limit - i.place)) c.bytes.ensures) c.in-Whole.ensures.exact in
-    let rest = ap (λ (h : HeldBytes). length h.bytes) c.pass.ensures in
-    (stands_behind c.args.self.now i.uid i.shape i.ending i.stage c.args.order c.args.tests i.quota i.place i.held.bytes i.byte_limit i.received (i.place + c.in-Whole.used) c.self.view_is c.requires,
-      omega (arith, size.0, c.self.invariant.1), omega (arith, size.1, c.self.invariant.2), c.self.invariant.3, omega (arith, rest, size.2, length-drop c.in-Whole.used i.held.bytes, c.self.invariant.4),
-      known_behind c.args.self.now i.uid i.shape i.ending i.stage c.args.order c.args.tests i.quota i.place i.held.bytes _ i.byte_limit i.received i.reply_scan c.new-self-inside.result c.self.view_is c.requires (λ o. c.new-self-inside.ensures i.shape o _))
+    let rest = ap (λ (h : HeldBytes). length h.bytes) c.pass.ensures in (
+      stands_behind c.args.self.now i.uid i.shape i.ending i.stage c.args.order c.args.tests i.quota i.place i.held.bytes i.byte_limit i.received (i.place + c.in-Whole.used) c.self.view_is c.requires,
+      omega (arith, size.0, c.self.invariant.1),
+      omega (arith, size.1, c.self.invariant.2),
+      c.self.invariant.3,
+      omega (arith, rest, size.2, length-drop c.in-Whole.used i.held.bytes, c.self.invariant.4),
+      known_behind c.args.self.now i.uid i.shape i.ending i.stage c.args.order c.args.tests i.quota i.place i.held.bytes _ i.byte_limit i.received i.reply_scan c.new-self-inside.result c.self.view_is c.requires (λ o. c.new-self-inside.ensures i.shape o _),
+    )
 
 pub returns-else-tests-gt0-clause-does : goal.returns-else-tests-gt0-clause-does
 returns-else-tests-gt0-clause-does c =
@@ -42,6 +46,11 @@ pub invariant_of-self-then-tests-gt0 : goal.invariant_of-self-then-tests-gt0
 invariant_of-self-then-tests-gt0 c =
     let i = c.self.inside in
     let size = used_within i.shape c.args.order c.counted-bytes.result.now i.held.bytes (i.byte_limit - i.place) c.in-Whole.used c.in-Whole.sample (c.counted-bytes.ensures ∙ ap (take (i.byte_limit - i.place)) c.bytes.ensures) c.in-Whole.ensures.exact in
-    let rest = ap (λ (h : HeldBytes). length h.bytes) c.pass.ensures in
-    (tt, omega (arith, c.self.invariant.1), omega (arith, size.1, c.self.invariant.2), c.self.invariant.3, omega (arith, rest, size.2, length-drop c.in-Whole.used i.held.bytes, c.self.invariant.4),
-      c.new-self-inside.ensures i.shape c.args.order _)
+    let rest = ap (λ (h : HeldBytes). length h.bytes) c.pass.ensures in (
+      tt,
+      omega (arith, c.self.invariant.1),
+      omega (arith, size.1, c.self.invariant.2),
+      c.self.invariant.3,
+      omega (arith, rest, size.2, length-drop c.in-Whole.used i.held.bytes, c.self.invariant.4),
+      c.new-self-inside.ensures i.shape c.args.order _,
+    )
