@@ -3,11 +3,7 @@ use Rattle.std.proofs.Common.{◌≡◌, ◌&&◌, ℕ, suc, ◌+◌, ◌<◌, �
 use Rattle.std.specs.List.{starts_with}
 use Rattle.std.proofs.lemmas.List.{append-nil, take_more, length-drop, drop-drop}
 use Rattle.reply_model.specs.Lines.{Lines, rest, line, line_end, with_byte, lines_in}
-
--- bytes in front of the first line
-abbrev pub with_front : List ℕ → Lines → Lines
-with_front xs (rest b) = rest (xs ++ b)
-with_front xs (line text more) = line (xs ++ text) more
+use Rattle.feed_reply.specs.Views.{with_front}
 
 push : (xs : List ℕ) (x : ℕ) (u : Lines) → with_front xs (with_byte x u) ≡ with_front (xs ++ x ∷ []) u
 push xs x (rest b) = ap rest (sym (append_assoc xs (x ∷ []) b))

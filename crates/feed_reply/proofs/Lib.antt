@@ -5,3 +5,4 @@ pub mod Values
 pub mod Pieces
 pub mod Walk
 pub mod Longer
+pub mod Scanned

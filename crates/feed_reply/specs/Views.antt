@@ -1,12 +1,17 @@
 -- What the code hands on, seen as the definitions do.
-use Rattle.std.specs.Prelude.{◌≡◌, ℕ, ◌+◌, ◌≤◌, List, take, drop, length, Option, Some, None, Result, Ok, Err}
+use Rattle.std.specs.Prelude.{◌≡◌, ℕ, ◌+◌, ◌≤◌, List, ◌++◌, take, drop, length, Option, Some, None, Result, Ok, Err}
 use denote.Ref.{Bor}
 use Rattle.reply_model.specs.declared.ReplyWhy.{ReplyWhy}
 use Rattle.reply_model.specs.declared.Refusal.{Refusal}
 use Rattle.reply_model.specs.declared.ReplyStep.{ReplyStep}
 use Rattle.reply_model.specs.declared.ReplyStep.TheVariants.{Done, More, Refused}
-use Rattle.reply_model.specs.Lines.{rest, line, lines_in}
+use Rattle.reply_model.specs.Lines.{Lines, rest, line, lines_in}
 use Rattle.reply_model.specs.Reply.{Found}
+
+-- bytes in front of the first line
+abbrev pub with_front : List ℕ → Lines → Lines
+with_front xs (rest b) = rest (xs ++ b)
+with_front xs (line text more) = line (xs ++ text) more
 
 -- the first line of some bytes has this length, or isn't complete
 abbrev pub IsFirstLine : List ℕ → Option ℕ → Type 0

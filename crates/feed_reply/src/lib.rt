@@ -16,15 +16,17 @@ mod lines;
 mod reason;
 mod reply;
 mod request;
+mod scan;
 mod status;
 
 pub use feed_model::Order;
-pub use laws::more_bytes_change_nothing;
+pub use laws::{more_bytes_change_nothing, more_bytes_keep_a_scan};
 pub use reason::why_number;
 pub use rec_base::Memory;
 pub use reply::read_reply;
 pub use reply_model::{Refusal, Reply, ReplyStep, ReplyWhy};
 pub use request::request_text;
+pub use scan::ReplyScan;
 pub use xdf_model::Shape;
 
 #[cfg(test)]

@@ -3,55 +3,14 @@
 ghost use Rattle.std.specs.Prelude.{◌≡◌, ◌≤◌, ◌+◌, ℕ, Option, List, length, drop};
 ghost use Rattle.std.specs.Option.{option_copied};
 ghost use Rattle.reply_model.specs.Lines.{lines_in};
-ghost use Rattle.reply_model.specs.Reply.{accepts_line, empty_line, last_of, header, accepts_uid, accepts_protocol, order_of, accepts_subnormals, agreed, reply_in};
-ghost use Rattle.feed_reply.specs.Views.{seen, IsWithin, IsUsedWithin};
+ghost use Rattle.reply_model.specs.Reply.{last_of, header, accepts_uid, accepts_protocol, order_of, accepts_subnormals, agreed, reply_in};
+ghost use Rattle.feed_reply.specs.Views.{seen, IsUsedWithin};
 
 use crate::header::read_value;
 use crate::lines::line_length;
-use crate::status::read_status;
+use crate::scan::ReplyScan;
 use feed_model::Order;
-use reply_model::{Refusal, Reply, ReplyStep, ReplyWhy};
-
-// Where a complete line, before which so many stand, is accepted.
-#[tactic(auto, unfolding(reply_model::specs::Reply::accepts_line))]
-fn judge_line(number: usize, text: &[u8]) -> Result<(), ReplyWhy>
-    ensures { result ≡ accepts_line number text.now }
-{
-    if text.len() > 4096 {
-        return Err(ReplyWhy::LineTooLong);
-    }
-    if number == 0 {
-        return read_status(text);
-    }
-    if number > 63 && !text.is_empty() {
-        return Err(ReplyWhy::TooManyLines);
-    }
-    Ok(())
-}
-
-// The place of the empty line, where it is there and no line is refused.
-fn find_empty_line(bytes: &[u8]) -> Result<Option<usize>, Refusal>
-    ensures line { result ≡ empty_line 0 0 (lines_in bytes.now) }
-    ensures within { IsWithin (length bytes.now) result }
-{
-    let mut at = 0;
-    let mut number = 0;
-    while let Some(size) = line_length(&bytes[at..]) {
-        if let Err(why) = judge_line(number, &bytes[at..at + size]) {
-            return Err(Refusal { at, why });
-        }
-        if size == 0 {
-            return Ok(Some(at));
-        }
-        at += size + 2;
-        number += 1;
-    }
-    if bytes.len() - at > 4097 {
-        let why = ReplyWhy::LineTooLong;
-        return Err(Refusal { at, why });
-    }
-    Ok(None)
-}
+use reply_model::{Refusal, ReplyStep, ReplyWhy};
 
 // The last line of a name from a place on, and its value.
 fn find_last<'a>(name: &[u8], start: usize, bytes: &'a [u8]) -> Option<(usize, &'a [u8])>
@@ -140,9 +99,9 @@ fn judge_subnormals(found: Option<(usize, &[u8])>) -> Result<(), Refusal>
     Err(Refusal { at, why })
 }
 
-// What the header agrees to, whose empty line is there.
+/// What the header agrees to, whose empty line is there.
 #[tactic(auto, unfolding(reply_model::specs::Reply::agreed))]
-fn read_agreed(uid: Option<&[u8]>, empty: usize, bytes: &[u8]) -> Result<Order, Refusal>
+pub(crate) fn read_agreed(uid: Option<&[u8]>, empty: usize, bytes: &[u8]) -> Result<Order, Refusal>
     ensures { result ≡ agreed (option_copied uid.entry) empty (lines_in bytes.now) }
 {
     judge_uid(uid, find_header(b"UID", bytes))?;
@@ -181,20 +140,9 @@ fn read_agreed(uid: Option<&[u8]>, empty: usize, bytes: &[u8]) -> Result<Order, 
 /// The place of a refusal is the first byte of the line that counts, or of the empty line where the
 /// line isn't there. `More` comes exactly where no empty line is there yet and nothing is refused;
 /// the other answers stay the same for every longer input (`more_bytes_change_nothing`).
-#[tactic(auto, unfolding(reply_model::specs::Reply::reply_in))]
 pub fn read_reply(bytes: &[u8], uid: Option<&[u8]>) -> ReplyStep
     ensures answer { result ≡ reply_in (option_copied uid.entry) bytes.now }
     ensures within { IsUsedWithin (length bytes.now) result }
 {
-    match find_empty_line(bytes) {
-        Err(Refusal { at, why }) => ReplyStep::Refused { at, why },
-        Ok(None) => ReplyStep::More,
-        Ok(Some(empty)) => match read_agreed(uid, empty, bytes) {
-            Ok(order) => ReplyStep::Done {
-                reply: Reply { order },
-                used: empty + 2,
-            },
-            Err(Refusal { at, why }) => ReplyStep::Refused { at, why },
-        },
-    }
+    ReplyScan::new().read(bytes, uid)
 }

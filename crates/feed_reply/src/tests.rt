@@ -68,6 +68,31 @@ fn a_reply_is_read_or_the_first_refusal_is_told(rt: HostRuntime) {
     );
 }
 
+// What a scan tells first but `More`, and of how many bytes, where one more byte comes at each call.
+fn scanned(bytes: &[u8]) -> (usize, ReplyStep) {
+    let mut scan = ReplyScan::new();
+    for size in 0..bytes.len() {
+        let step = scan.read(&bytes[..size], None);
+        if step != ReplyStep::More {
+            return (size, step);
+        }
+    }
+    (bytes.len(), scan.read(bytes, None))
+}
+
+#[test]
+fn a_reply_in_pieces_of_one_byte_is_told_with_its_last_byte(rt: HostRuntime) {
+    for (text, want) in [
+        (LITTLE_ENDIAN_REPLY, (97, done(Order::Little, 97))),
+        (
+            "LSL/110 404 Not found\r\nX",
+            (23, refused(0, ReplyWhy::NotFound)),
+        ),
+    ] {
+        assert_eq!(rt; scanned(text.as_bytes()), want, "in {text}");
+    }
+}
+
 #[test]
 fn a_status_line_is_judged_alone(rt: HostRuntime) {
     for (text, want) in [

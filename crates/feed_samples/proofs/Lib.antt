@@ -4,3 +4,4 @@ pub mod Replies
 pub mod Fronts
 pub mod Passed
 pub mod Inlets
+pub mod Scanned

@@ -20,6 +20,17 @@ use Rattle.feed_samples.specs.declared.stage.Stage.TheVariants.{Reply as reply_s
 use Rattle.feed_samples.specs.Inlet.{InletState, rules_of, with_reading, with_given}
 use Rattle.feed_samples.specs.Kept.{state_of, reading_of, StandsAt, IsOpen, IsBeforeReply, IsBehindReply}
 use Rattle.feed_samples.proofs.Fronts.{front_sample}
+use Rattle.std.specs.Prelude.{IfOk, OnErr}
+use Rattle.std.proofs.Common.{Result, Err, [], ◌++◌, append-nil}
+use Rattle.rec_base.specs.Known.{Moves}
+use Rattle.piece_reader.specs.declared.fault.PieceFault.{PieceFault}
+use Rattle.piece_reader.proofs.Fronts.{take_front}
+use Rattle.feed_reply.specs.declared.scan.ReplyScan.{ReplyScan}
+use Rattle.feed_reply.proofs.Scanned.{scan_longer}
+use Rattle.feed_samples.specs.declared.scan.SampleScan.{SampleScan}
+use Rattle.feed_samples.specs.Scan.{Knows}
+use Rattle.feed_samples.specs.Kept.{IsKnown}
+use Rattle.feed_samples.proofs.Scanned.{knows_longer}
 
 abbrev pub seen : Option (List ℕ) → Shape → Option FeedEnd → Stage → Option ℕ → ℕ → List ℕ → ℕ → ℕ → InletState
 seen uid shape ending stage quota place bytes limit received =
@@ -133,3 +144,30 @@ used_within shape order counted bytes room used s is found =
 
 pub given_fits : (now : InletState) (shape : Shape) (order : Order) (s : Sample) (text : List ℕ) → shape ≡ now.shape → IsFeedSample shape order s text → FitsShape now.shape s × (sum_by text_size s.values ≤ text_limit)
 given_fits now shape order s text e h = (subst (λ (x : Shape). FitsShape x s) e h.fits, h.texts)
+
+-- ---- what is known of the bytes that count
+
+pub known_behind : (now : InletState) (uid : Option (List ℕ)) (shape : Shape) (ending : Option FeedEnd) (stage : Stage) (order : Order) (tests : ℕ) (quota : Option ℕ) (place : ℕ) (bytes counted : List ℕ) (limit received : ℕ)
+    (reply : ReplyScan) (scan : SampleScan) → seen uid shape ending stage quota place bytes limit received ≡ now → IsBehindReply order tests now.reading → ((o : Order) → Knows shape o counted scan) → IsKnown stage shape counted reply scan
+known_behind now uid shape (Some e) stage order tests quota place bytes counted limit received reply scan v b k = absurd (subst (λ (x : InletState). IsBehindReply order tests x.reading) (sym v) b)
+known_behind now uid shape None reply_stage order tests quota place bytes counted limit received reply scan v b k = absurd (subst (λ (x : InletState). IsBehindReply order tests x.reading) (sym v) b)
+known_behind now uid shape None (Samples p t) order tests quota place bytes counted limit received reply scan v b k = k p
+
+known_longer : (stage : Stage) (shape : Shape) (counted more : List ℕ) (reply : ReplyScan) (scan : SampleScan) → IsKnown stage shape counted reply scan → IsKnown stage shape (counted ++ more) reply scan
+known_longer reply_stage shape counted more reply scan k = scan_longer counted more reply k
+known_longer (Samples order tests) shape counted more reply scan k = knows_longer shape order counted more scan k
+
+-- what a read left of the bytes: the same and some behind them
+pub record Longer (old new : List ℕ) (most : ℕ) : Type 0 where
+  pub bytes : List ℕ
+  pub is : new ≡ old ++ bytes
+  pub few : length bytes ≤ most
+
+pub longer_read : (result : Result ℕ PieceFault) (before left : Option (List ℕ)) (old new : List ℕ) (most : ℕ) → IfOk result (Moves before left old new) → IfOk result (λ n. n ≤ most) → OnErr result (new ≡ old) → Longer old new most
+longer_read (Ok n) before left old new most m w k = record { bytes = m.bytes; is = m.gained; few = omega (arith, m.count, w) }
+longer_read (Err e) before left old new most m w k = record { bytes = []; is = k ∙ sym (append-nil old); few = omega arith }
+
+pub known_read : (stage : Stage) (shape : Shape) (old new : List ℕ) (room most : ℕ) (reply : ReplyScan) (scan : SampleScan) → Longer old new most → IsKnown stage shape (take room old) reply scan → IsKnown stage shape (take room new) reply scan
+known_read stage shape old new room most reply scan l k =
+    let is : take room new ≡ take room old ++ take (room - length old) l.bytes = ap (take room) l.is ∙ take_front room old l.bytes in
+    subst (λ (x : List ℕ). IsKnown stage shape x reply scan) (sym is) (known_longer stage shape (take room old) (take (room - length old) l.bytes) reply scan k)

@@ -8,6 +8,10 @@ use Rattle.xdf_model.specs.Sample.{Sample as SampleValue}
 use Rattle.inlet_model.specs.declared.end.FeedEnd.{FeedEnd}
 use Rattle.inlet_model.specs.Inlet.{FeedState, before_reply, behind_reply}
 use Rattle.feed_samples.specs.declared.step.FeedStep.TheVariants.{Sample, End, Memory}
+use Rattle.feed_reply.specs.declared.scan.ReplyScan.{ReplyScan}
+use Rattle.feed_reply.specs.Scan.{IsScanOf}
+use Rattle.feed_samples.specs.declared.scan.SampleScan.{SampleScan}
+use Rattle.feed_samples.specs.Scan.{Knows}
 use Rattle.feed_samples.specs.declared.stage.Stage.{Stage}
 use Rattle.feed_samples.specs.declared.stage.Stage.TheVariants.{Reply, Samples}
 use Rattle.feed_samples.specs.declared.stage.Inner.{Inner}
@@ -53,6 +57,11 @@ IsBehindReply o n (going (behind_reply order tests quota place) rest room) = (or
 abbrev pub IsShort : Rules FeedState SampleValue FeedEnd → Reading FeedState FeedEnd → Type 0
 IsShort r (done e) = ⊥
 IsShort r (going s rest room) = r.at s (take room rest) ≡ short
+
+-- what is known of the bytes that count, for what comes next
+abbrev pub IsKnown : Stage → Shape → List ℕ → ReplyScan → SampleScan → Type 0
+IsKnown Reply shape counted reply sample = IsScanOf counted reply
+IsKnown (Samples order tests) shape counted reply sample = Knows shape order counted sample
 
 -- what was answered of the bytes that were taken, or that more are wanted
 abbrev pub Does : InletState → InletState → Inner → Type 0

@@ -29,7 +29,8 @@ impl ValueAt<'_> {
     }
 }
 
-fn ordered(order: Order, size: usize, bytes: &[u8]) -> u64
+/// The number in the first bytes.
+pub(crate) fn ordered(order: Order, size: usize, bytes: &[u8]) -> u64
     requires low { 1 ≤ size }
     requires high { size ≤ 8 }
     requires room { size ≤ length bytes.now }
@@ -77,8 +78,13 @@ fn is_width(byte: u8) -> bool
     byte == 1 || byte == 2 || byte == 4 || byte == 8
 }
 
+/// A text behind its width and its length, where texts have so much room.
 #[tactic(auto, unfolding(feed_model::specs::FeedReading::text_at, feed_model::specs::FeedReading::sized_text_at, feed_model::specs::FeedReading::bytes_at))]
-fn read_text(order: Order, room: usize, bytes: &[u8]) -> Result<(&[u8], &[u8]), ReadFault>
+pub(crate) fn read_text(
+    order: Order,
+    room: usize,
+    bytes: &[u8],
+) -> Result<(&[u8], &[u8]), ReadFault>
     ensures exact { Gives (λ x. (text x.0.now, x.1.now)) result (text_at order room bytes.now) }
     ensures room { IfOk result (λ x. length x.0.now ≤ room) }
 {

@@ -12,9 +12,10 @@ ghost use Rattle.feed_samples.specs.Inlet.{rules_of, with_reading, end_in};
 ghost use Rattle.feed_samples.specs.Kept.{Does, FitsInner, IsBeforeReply, IsBehindReply, IsGoing, IsOpen, IsShort};
 
 use crate::read::{SampleRead, read_feed_sample};
+use crate::scan::SampleScan;
 use crate::stage::{Inner, Stage};
 use crate::step::FeedStep;
-use feed_reply::{Order, ReplyStep, read_reply};
+use feed_reply::{Order, ReplyScan, ReplyStep};
 use inlet_model::FeedEnd;
 use piece_reader::{Held, PieceFault};
 use rec_base::{Memory, Source, Word};
@@ -34,6 +35,9 @@ pub struct Kept {
     shape: Shape,
     held: Held,
     stage: Stage,
+    // what is known of the bytes that count
+    reply_scan: ReplyScan,
+    sample_scan: SampleScan,
     // how many samples may still be given
     quota: Option<u64>,
     // the place of the first byte that is held
@@ -44,15 +48,15 @@ pub struct Kept {
 }
 
 impl Model for Kept {
-    ghost use Rattle.std.specs.Prelude.{length, ◌≤◌, ◌+◌, ◌-◌, ◌^◌};
+    ghost use Rattle.std.specs.Prelude.{length, take, ◌≤◌, ◌+◌, ◌-◌, ◌^◌};
     ghost use Rattle.feed_samples.specs.Inlet.{InletState};
-    ghost use Rattle.feed_samples.specs.Kept.{reading_of, state_of, StandsAt};
+    ghost use Rattle.feed_samples.specs.Kept.{IsKnown, reading_of, state_of, StandsAt};
 
     ghost Value = { InletState };
 
     ghost view = { λ k. record { uid = k.uid; shape = k.shape; reading = reading_of k.ending (state_of k.stage k.quota k.place) k.held.bytes (k.byte_limit - k.place); received = k.received; byte_limit = k.byte_limit } };
 
-    ghost invariant = { λ k. StandsAt k.stage k.place × (k.received ≤ k.place) × (k.place ≤ k.byte_limit) × (k.byte_limit ≤ 2 ^ 40) × (k.place + length k.held.bytes ≤ k.byte_limit + 1) };
+    ghost invariant = { λ k. StandsAt k.stage k.place × (k.received ≤ k.place) × (k.place ≤ k.byte_limit) × (k.byte_limit ≤ 2 ^ 40) × (k.place + length k.held.bytes ≤ k.byte_limit + 1) × IsKnown k.stage k.shape (take (k.byte_limit - k.place) k.held.bytes) k.reply_scan k.sample_scan };
 }
 
 // The bytes that count.
@@ -106,6 +110,8 @@ impl Kept {
             shape,
             held: Held::new(alloc, ROOM)?,
             stage: Stage::Reply,
+            reply_scan: ReplyScan::new(),
+            sample_scan: SampleScan::new(),
             quota: limit,
             place: 0,
             received: 0,
@@ -171,7 +177,7 @@ impl Kept {
         ensures received { self.new.received ≤ self.new.byte_limit }
     {
         let bytes = counted(self.held.bytes(), self.byte_limit - self.place);
-        match read_reply(bytes, uid_bytes(&self.uid)) {
+        match self.reply_scan.read(bytes, uid_bytes(&self.uid)) {
             ReplyStep::Done { reply, used } => {
                 self.held.pass(used);
                 self.place += used;
@@ -179,6 +185,7 @@ impl Kept {
                     order: reply.order,
                     tests: 2,
                 };
+                self.sample_scan = SampleScan::new();
                 Inner::Again
             }
             ReplyStep::More => self.ask(),
@@ -200,11 +207,15 @@ impl Kept {
             return self.stop(FeedEnd::Limit);
         }
         let bytes = counted(self.held.bytes(), self.byte_limit - self.place);
+        if self.sample_scan.is_short(&self.shape, order, bytes) {
+            return self.ask();
+        }
         let place = self.place;
         match read_feed_sample(self.alloc, &self.shape, order, bytes) {
             SampleRead::Whole { sample, used } => {
                 self.held.pass(used);
                 self.place += used;
+                self.sample_scan = SampleScan::new();
                 if tests > 0 {
                     let tests = tests - 1;
                     self.stage = Stage::Samples { order, tests };

@@ -63,6 +63,9 @@ at_a_fault k now c taken e f t = let P : Kind → Type 0 = λ x. EndsBy x now ta
 pub collected : {I E : Type 0} (kind : E → Kind) (old now new : Outlook I E) (a b c : Option (List ℕ)) (items : List I) (e : E) → Begun old now a b items → Answered kind now new b c (end e) → IsCollected kind old a c items e
 collected kind old now new a b c items e k t = record {
   whole = λ n. whole_told kind old now new a b c items e n k t;
-  fault = λ f. (k.taken ++ t.taken, Consumes-trans a b c k.taken t.taken k.lost t.lost,
-      k.same t.taken failed ∙ ap (behind items) (at_a_fault (kind e) now c t.taken e f t.gives.0) ∙ behind_end items e);
+  fault = λ f. (
+    k.taken ++ t.taken,
+    Consumes-trans a b c k.taken t.taken k.lost t.lost,
+    k.same t.taken failed ∙ ap (behind items) (at_a_fault (kind e) now c t.taken e f t.gives.0) ∙ behind_end items e,
+  );
 }

@@ -21,7 +21,7 @@ pub held_passed : (now : HeldBytes) (xs : List ℕ) (start n end : ℕ) → held
 held_passed now xs start n end v le se ex =
     let P : HeldBytes → Type 0 = λ h. n ≤ length h.bytes → held xs (start + n) end ≡ record { bytes = drop n h.bytes; free = h.free + n; places = h.places } in
     let here : P (held xs start end) = λ lt. let fits : start + n ≤ end = omega (arith, lt, length-take (end - start) (drop start xs), length-drop start xs) in
-        ap (λ (l : List ℕ). record { bytes = l; free = start + n; places = length xs }) (passed xs start n end fits) in
+    ap (λ (l : List ℕ). record { bytes = l; free = start + n; places = length xs }) (passed xs start n end fits) in
     subst P v here le
 
 -- all bytes before a place, without the first of them

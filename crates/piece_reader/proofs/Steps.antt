@@ -22,10 +22,10 @@ all_enough r st zero m how s b lk lm = absurd (omega arith)
 all_enough r st (suc k) zero how s b lk lm = absurd (omega arith)
 all_enough r st (suc k) (suc m) how s b lk lm =
     one_step r (λ t rest. all_by k r how t rest) (λ t rest. all_by m r how t rest) how s b (r.at s b) (λ i u t e.
-      let size = st.within s b i u t e in
-      let shorter_k : length (drop u b) < k = omega (arith, length-drop u b, size.0, size.1) in
-      let shorter_m : length (drop u b) < m = omega (arith, length-drop u b, size.0, size.1) in
-      all_enough r st k m how t (drop u b) shorter_k shorter_m)
+    let size = st.within s b i u t e in
+    let shorter_k : length (drop u b) < k = omega (arith, length-drop u b, size.0, size.1) in
+    let shorter_m : length (drop u b) < m = omega (arith, length-drop u b, size.0, size.1) in
+    all_enough r st k m how t (drop u b) shorter_k shorter_m)
 
 -- ---- what stands in the bytes that count
 

@@ -1,17 +1,6 @@
-use Rattle.std.proofs.Common.{sym, ◌∙◌}
-use Rattle.std.proofs.lemmas.List.{take_rest}
-use Rattle.feed_reply.proofs.FirstLine.{line_here, line_later, no_line, no_front}
+use Rattle.feed_reply.proofs.FirstLine.{no_front}
 use Rattle.reply_model.specs.Lines.{lines_in}
 use Rattle.feed_reply.proofs.lines.line_length.Goals as goal
 
-pub loop-i-init : goal.loop-i-init
-loop-i-init c = no_front (lines_in c.args.bytes.now)
-
-pub returns-then-starts_with : goal.returns-then-starts_with
-returns-then-starts_with c = line_here c.args.bytes.now c.loop-i.i (sym (rw take_rest at c.starts_with.ensures.value) ∙ c.if-starts_with.true) c.loop-i.invariant
-
-pub loop-i-preserved : goal.loop-i-preserved
-loop-i-preserved c = line_later c.args.bytes.now c.loop-i.i c.loop-i-test.true (sym (rw take_rest at c.starts_with.ensures.value) ∙ c.if-starts_with.false) c.loop-i.invariant
-
-pub returns : goal.returns
-returns c = no_line c.args.bytes.now c.loop-i.i c.loop-i-test.false c.loop-i.invariant
+pub line_length_from-requires : goal.line_length_from-requires
+line_length_from-requires c = no_front (lines_in c.args.bytes.now)

@@ -1,7 +1,7 @@
 use Rattle.std.proofs.Common.{◌∙◌, ◌+◌, ◌-◌, take, length, ap, refl, arith, length-drop}
 use Rattle.piece_reader.specs.Held.{HeldBytes}
 use Rattle.feed_samples.specs.Inlet.{InletState}
-use Rattle.feed_samples.proofs.Passed.{test_passed, sample_passed, stands_behind, used_within, given_fits}
+use Rattle.feed_samples.proofs.Passed.{test_passed, sample_passed, stands_behind, known_behind, used_within, given_fits}
 use Rattle.feed_samples.proofs.kept.Kept.sample_step.Goals as goal
 
 pub returns-then-tests-gt0-clause-does : goal.returns-then-tests-gt0-clause-does
@@ -20,6 +20,7 @@ invariant_of-self-in-Whole c =
       omega (arith, size.1, c.self.invariant.2),
       c.self.invariant.3,
       omega (arith, rest, size.2, length-drop c.in-Whole.used i.held.bytes, c.self.invariant.4),
+      known_behind c.args.self.now i.uid i.shape i.ending i.stage c.args.order c.args.tests i.quota i.place i.held.bytes _ i.byte_limit i.received i.reply_scan c.new-self-inside.result c.self.view_is c.requires (λ o. c.new-self-inside.ensures i.shape o _),
     )
 
 pub returns-else-tests-gt0-clause-does : goal.returns-else-tests-gt0-clause-does
@@ -40,3 +41,16 @@ returns-else-tests-gt0-clause-received c =
     let i = c.self.inside in
     let size = used_within i.shape c.args.order c.counted-bytes.result.now i.held.bytes (i.byte_limit - i.place) c.in-Whole.used c.in-Whole.sample (c.counted-bytes.ensures ∙ ap (take (i.byte_limit - i.place)) c.bytes.ensures) c.in-Whole.ensures.exact in
     omega (arith, size.0, size.1, c.self.invariant.1, c.self.invariant.2)
+
+pub invariant_of-self-then-tests-gt0 : goal.invariant_of-self-then-tests-gt0
+invariant_of-self-then-tests-gt0 c =
+    let i = c.self.inside in
+    let size = used_within i.shape c.args.order c.counted-bytes.result.now i.held.bytes (i.byte_limit - i.place) c.in-Whole.used c.in-Whole.sample (c.counted-bytes.ensures ∙ ap (take (i.byte_limit - i.place)) c.bytes.ensures) c.in-Whole.ensures.exact in
+    let rest = ap (λ (h : HeldBytes). length h.bytes) c.pass.ensures in (
+      tt,
+      omega (arith, c.self.invariant.1),
+      omega (arith, size.1, c.self.invariant.2),
+      c.self.invariant.3,
+      omega (arith, rest, size.2, length-drop c.in-Whole.used i.held.bytes, c.self.invariant.4),
+      c.new-self-inside.ensures i.shape c.args.order _,
+    )
