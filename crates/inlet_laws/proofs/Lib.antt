@@ -1,0 +1,4 @@
+pub mod Replies
+pub mod Steady
+pub mod Stepped
+pub mod Spelled
