@@ -8,12 +8,19 @@
 
 mod fault;
 mod fields;
+mod kept;
 mod read;
+mod reader;
 mod scan;
+mod stage;
+mod step;
 mod values;
 
 pub use feed_reply::Order;
+pub use inlet_model::FeedEnd;
 pub use read::{SampleRead, read_feed_sample};
+pub use reader::FeedReader;
+pub use step::FeedStep;
 
 #[cfg(test)]
 mod scan_tests;

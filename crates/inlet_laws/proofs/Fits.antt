@@ -1,5 +1,5 @@
 -- The samples that are got fit the shape, and are few.
-use Rattle.std.proofs.Common.{◌≡◌, ℕ, ◌+◌, ◌-◌, ◌<◌, ◌≤◌, ◌⊎◌, inl, inr, List, [], ◌∷◌, ◌++◌, length, drop, Option, Some, None, refl, sym, ap, ◌∙◌, subst, arith}
+use Rattle.std.proofs.Common.{◌≡◌, ℕ, ◌+◌, ◌-◌, ◌≤◌, ◌⊎◌, inl, inr, List, [], ◌∷◌, length, drop, Option, Some, sym, ap, subst, arith}
 use Rattle.std.specs.Prelude.{All, sum_by}
 use Rattle.std.proofs.lemmas.List.{length-append, length-drop}
 use Rattle.std.proofs.lemmas.List.Elements.{All-nil, All-cons, All-drop}
@@ -51,14 +51,14 @@ of_feed P uid shape limit b how samples e none some (inr (inr k)) = some k.reply
 pub fit : (uid : Option (List ℕ)) (shape : Shape) (limit : Option ℕ) (b : List ℕ) (how : How) (samples : List Sample) (e : FeedEnd) → IsBytes b → feed_in uid shape limit b how ≡ (samples, e) → All (Fits shape) samples
 fit uid shape limit b how samples e h is =
     of_feed (All (Fits shape)) uid shape limit b how samples e (All-nil (Fits shape))
-      (λ order used k. subst (All (Fits shape)) (sym k.given) (All-drop (Fits shape) 2 k.all (each_fits shape order k.all k.texts k.each))) ((spelled uid shape limit b how samples e h).0 is)
+    (λ order used k. subst (All (Fits shape)) (sym k.given) (All-drop (Fits shape) 2 k.all (each_fits shape order k.all k.texts k.each))) ((spelled uid shape limit b how samples e h).0 is)
 
 pub few : (uid : Option (List ℕ)) (shape : Shape) (limit : Option ℕ) (b : List ℕ) (how : How) (samples : List Sample) (e : FeedEnd) → IsBytes b → feed_in uid shape limit b how ≡ (samples, e) → length samples ≤ length b
 few uid shape limit b how samples e h is =
     of_feed (λ l. length l ≤ length b) uid shape limit b how samples e (omega arith)
-      (λ order used k. omega (arith, ap length k.given, length-drop 2 k.all, fewer_than_bytes shape order k.all k.texts k.each, ap length k.whole, length-append k.texts k.rest, length-drop used b)) ((spelled uid shape limit b how samples e h).0 is)
+    (λ order used k. omega (arith, ap length k.given, length-drop 2 k.all, fewer_than_bytes shape order k.all k.texts k.each, ap length k.whole, length-append k.texts k.rest, length-drop used b)) ((spelled uid shape limit b how samples e h).0 is)
 
 pub asked : (uid : Option (List ℕ)) (shape : Shape) (n : ℕ) (b : List ℕ) (how : How) (samples : List Sample) (e : FeedEnd) → IsBytes b → feed_in uid shape (Some n) b how ≡ (samples, e) → length samples ≤ n
 asked uid shape n b how samples e h is =
     of_feed (λ l. length l ≤ n) uid shape (Some n) b how samples e (omega arith)
-      (λ order used k. no_more shape order n samples (2 - length k.all) (used + length k.texts) k.rest how e Limit k.end) ((spelled uid shape (Some n) b how samples e h).0 is)
+    (λ order used k. no_more shape order n samples (2 - length k.all) (used + length k.texts) k.rest how e Limit k.end) ((spelled uid shape (Some n) b how samples e h).0 is)

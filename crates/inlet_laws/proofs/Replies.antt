@@ -1,5 +1,5 @@
 -- How many bytes a whole reply takes.
-use Rattle.std.proofs.Common.{◌≡◌, ℕ, suc, ◌+◌, ◌<◌, ◌≤◌, Bool, true, false, cond, eqb, List, [], ◌∷◌, length, Option, Some, None, Result, Ok, Err, refl, ap, ltb, ◌∙◌, sym, arith, inl, inr, nat_eq}
+use Rattle.std.proofs.Common.{◌≡◌, ℕ, suc, ◌+◌, ◌<◌, ◌≤◌, Bool, true, false, cond, eqb, List, [], ◌∷◌, length, Option, Some, None, Result, Ok, Err, refl, ltb, ◌∙◌, arith, inl, inr, nat_eq}
 use Rattle.std.specs.List.{starts_with}
 use Rattle.std.proofs.lemmas.Bool.{cases_lt, lt-ltb, le-ltb}
 use Rattle.xdf_model.specs.Reading.{◌>>=◌}
@@ -7,8 +7,7 @@ use Rattle.feed_model.specs.declared.Order.{Order}
 use Rattle.reply_model.specs.declared.ReplyWhy.{ReplyWhy}
 use Rattle.reply_model.specs.declared.Refusal.{Refusal}
 use Rattle.reply_model.specs.declared.Reply.{Reply}
-use Rattle.reply_model.specs.declared.ReplyStep.{ReplyStep}
-use Rattle.reply_model.specs.declared.ReplyStep.TheVariants.{Done, More, Refused}
+use Rattle.reply_model.specs.declared.ReplyStep.TheVariants.{Done}
 use Rattle.reply_model.specs.Lines.{Lines, rest, line, line_end, with_byte, lines_in}
 use Rattle.reply_model.specs.Reply.{refused_at, behind_line, accepts_line, empty_line, agreed, step_of, judged, reply_in}
 
@@ -50,7 +49,7 @@ unfolding empty_line size_of
 empty_within number at e (rest b) h = absurd (rest_ends number at e b h)
 empty_within number at e (line text more) h =
     by_line at e 0 (at + (length text + 2 + size_of more)) (accepts_line number text) (eqb (length text) 0) (empty_line (suc number) (behind_line at text) more) (omega arith)
-      (λ k. omega (arith, empty_within (suc number) (behind_line at text) e more k)) h
+    (λ k. omega (arith, empty_within (suc number) (behind_line at text) e more k)) h
 
 by_step : (e : ℕ) (r : Result Order Refusal) (reply : Reply) (used : ℕ) → step_of e r ≡ Done reply used → e + 2 ≡ used
 by_step e (Ok order) reply used h = cc

@@ -3,23 +3,23 @@ use Rattle.std.proofs.Common.{◌≡◌, ℕ, zero, suc, ◌+◌, ◌-◌, ◌<�
 use Rattle.std.specs.Prelude.{◌↔◌}
 use Rattle.std.proofs.lemmas.List.{length-append, length-drop, drop_all}
 use Rattle.reading_model.specs.Outlook.{How, ended, failed, over, All, first}
-use Rattle.reading_model.specs.Rules.{given, by_front, all_by, all_of}
+use Rattle.reading_model.specs.Rules.{given, by_front, all_by}
 use Rattle.xdf_model.specs.declared.types.Shape.{Shape}
 use Rattle.xdf_model.specs.Sample.{Sample, Joined}
 use Rattle.xdf_model_laws.proofs.Bytes.{IsBytes, IsBytes-rest, IsBytes-drop}
 use Rattle.feed_model.specs.declared.Order.{Order}
 use Rattle.feed_model.specs.Feed.{IsFeedSample}
-use Rattle.feed_model.specs.FeedReading.{FeedFault, Taken, feed_sample_at}
-use Rattle.feed_laws.proofs.Steps.{taken, failed as faulty}
+use Rattle.feed_model.specs.FeedReading.{Taken, feed_sample_at}
+use Rattle.feed_laws.proofs.Steps.{taken}
 use Rattle.feed_laws.proofs.Samples.{reads_sample}
 use Rattle.feed_laws.proofs.Cut.{rest_shorter}
 use Rattle.reply_model.specs.declared.ReplyStep.{ReplyStep}
 use Rattle.reply_model.specs.declared.ReplyStep.TheVariants.{Done, More, Refused}
 use Rattle.reply_model.specs.Reply.{reply_in}
 use Rattle.inlet_model.specs.declared.end.FeedEnd.{FeedEnd}
-use Rattle.inlet_model.specs.declared.end.FeedEnd.TheVariants.{Limit, ReplyRefused}
-use Rattle.inlet_model.specs.Inlet.{before_reply, behind_reply, by_reply, one_less, feed_end, feed_rules, feed_in}
-use Rattle.inlet_laws.specs.FeedOf.{cut_reply, no_sample, IsEnough, IsBelow, IsStopped, AreSamplesOf, IsRefused, IsCutReply, IsAnswered, IsFeedOf}
+use Rattle.inlet_model.specs.declared.end.FeedEnd.TheVariants.{Limit}
+use Rattle.inlet_model.specs.Inlet.{before_reply, by_reply, one_less, feed_end, feed_rules, feed_in}
+use Rattle.inlet_laws.specs.FeedOf.{cut_reply, no_sample, IsEnough, IsBelow, IsStopped, AreSamplesOf, IsFeedOf}
 use Rattle.inlet_laws.proofs.Replies.{reply_size}
 use Rattle.inlet_laws.proofs.Stepped.{given_by, step_limit, step_fault, step_test, step_given}
 
@@ -69,8 +69,8 @@ more_given shape order quota place b how samples e s x rest wants is parts k = r
   whole = parts ∙ ap (λ (t : List ℕ). x ++ t) k.whole ∙ sym (append_assoc x k.texts k.rest);
   given = ap (λ (l : List Sample). s ∷ l) k.given;
   end =
-    let size = ap length parts in
-    ends_same shape order quota (s ∷ samples) (0 - length k.all) (0 - length (s ∷ k.all)) (place + (length b - length rest) + length k.texts) (place + length (x ++ k.texts)) k.rest how e (omega arith) (omega (arith, size, length-append x rest, length-append x k.texts))
+      let size = ap length parts in
+      ends_same shape order quota (s ∷ samples) (0 - length k.all) (0 - length (s ∷ k.all)) (place + (length b - length rest) + length k.texts) (place + length (x ++ k.texts)) k.rest how e (omega arith) (omega (arith, size, length-append x rest, length-append x k.texts))
       (ends_more shape order quota s samples (0 - length k.all) (place + (length b - length rest) + length k.texts) k.rest how e wants k.end);
 }
 
@@ -84,8 +84,8 @@ more_test shape order tests quota place b how samples e s x rest is parts k = re
   whole = parts ∙ ap (λ (t : List ℕ). x ++ t) k.whole ∙ sym (append_assoc x k.texts k.rest);
   given = k.given;
   end =
-    let size = ap length parts in
-    ends_same shape order quota samples (tests - length k.all) (suc tests - length (s ∷ k.all)) (place + (length b - length rest) + length k.texts) (place + length (x ++ k.texts)) k.rest how e (omega arith) (omega (arith, size, length-append x rest, length-append x k.texts)) k.end;
+      let size = ap length parts in
+      ends_same shape order quota samples (tests - length k.all) (suc tests - length (s ∷ k.all)) (place + (length b - length rest) + length k.texts) (place + length (x ++ k.texts)) k.rest how e (omega arith) (omega (arith, size, length-append x rest, length-append x k.texts)) k.end;
 }
 
 nothing_given : (tests : ℕ) → ◌≡◌ {A = List Sample} [] (drop tests [])
@@ -127,7 +127,7 @@ found_read : (k : ℕ) (uid : Option (List ℕ)) (shape : Shape) (order : Order)
 found_read k uid shape order tests quota place b how (Ok x) wants h e next = found_sample k uid shape order tests quota place b how x.0 x.1 wants h e (next x.0 x.1 e)
 found_read k uid shape order tests quota place b how (Err f) wants h e next =
     subst (Holds shape order tests quota place b how) (sym (step_fault k uid shape order tests quota place how b f wants e))
-      (none_now shape order tests quota place b how (no_sample tests place b how f) (inr (record { below = wants; why = f; stands = e; end = refl })))
+    (none_now shape order tests quota place b how (no_sample tests place b how f) (inr (record { below = wants; why = f; stands = e; end = refl })))
 
 found : (k : ℕ) (uid : Option (List ℕ)) (shape : Shape) (order : Order) (tests : ℕ) (quota : Option ℕ) (place : ℕ) (b : List ℕ) (how : How) → IsBytes b → length b < k → Found k uid shape order tests quota place b how
 found zero uid shape order tests quota place b how h lt = absurd (omega (arith, lt))
@@ -135,10 +135,10 @@ found (suc k) uid shape order tests (Some zero) place b how h lt =
     subst (Holds shape order tests (Some 0) place b how) (sym (step_limit k uid shape order tests place how b)) (none_now shape order tests (Some 0) place b how Limit (inl (refl, refl)))
 found (suc k) uid shape order tests None place b how h lt =
     found_read k uid shape order tests None place b how (feed_sample_at shape order b) tt h refl
-      (λ s rest e tests place quota. let x = (reads_sample shape order).sound b s rest h e in found k uid shape order tests quota place rest how (IsBytes-rest x.0 rest b h x.2) (omega (arith, lt, rest_shorter shape order b s rest e)))
+    (λ s rest e tests place quota. let x = (reads_sample shape order).sound b s rest h e in found k uid shape order tests quota place rest how (IsBytes-rest x.0 rest b h x.2) (omega (arith, lt, rest_shorter shape order b s rest e)))
 found (suc k) uid shape order tests (Some (suc n)) place b how h lt =
     found_read k uid shape order tests (Some (suc n)) place b how (feed_sample_at shape order b) (omega arith) h refl
-      (λ s rest e tests place quota. let x = (reads_sample shape order).sound b s rest h e in found k uid shape order tests quota place rest how (IsBytes-rest x.0 rest b h x.2) (omega (arith, lt, rest_shorter shape order b s rest e)))
+    (λ s rest e tests place quota. let x = (reads_sample shape order).sound b s rest h e in found k uid shape order tests quota place rest how (IsBytes-rest x.0 rest b h x.2) (omega (arith, lt, rest_shorter shape order b s rest e)))
 
 -- ---- from the relation to the rules
 
@@ -217,9 +217,9 @@ told (s ∷ all) (suc k) uid shape order tests quota place b texts rest how samp
           let shorter = rest_shorter shape order b s back stands in
           let size : length b ≡ length x + (length y + length rest) = omega (arith, ap length parts, length-append texts rest, ap length each.4, length-append x y) in
           told_sample (suc k) uid shape order tests quota place b how s all samples e m (length all) p back rest wants stands same (count ∙ omega arith) ends
-            (λ tests' m' quota' samples' same' count' ends'.
-              told all k uid shape order tests' quota' (place + (length b - length back)) back y rest how samples' e m' p each.3 refl same' count'
-                (omega (arith, at, ap length each.4, length-append x y, size, length-append y rest)) ends' (omega (arith, shorter, lt)))
+          (λ tests' m' quota' samples' same' count' ends'.
+          told all k uid shape order tests' quota' (place + (length b - length back)) back y rest how samples' e m' p each.3 refl same' count'
+          (omega (arith, at, ap length each.4, length-append x y, size, length-append y rest)) ends' (omega (arith, shorter, lt)))
     ]
 
 -- ---- the reply

@@ -1,7 +1,7 @@
 -- The rules of a feed are steady.
-use Rattle.std.proofs.Common.{◌≡◌, ℕ, zero, suc, ◌+◌, ◌-◌, ◌<◌, ◌≤◌, List, [], ◌∷◌, ◌++◌, length, drop, Option, Some, None, Ok, Err, refl, sym, ap, ◌∙◌, arith}
-use Rattle.std.proofs.lemmas.List.{length-append, length-drop}
-use Rattle.reading_model.specs.Outlook.{How, ended, failed, over, Kind, final, at_end, at_fault, at_limit}
+use Rattle.std.proofs.Common.{◌≡◌, ℕ, zero, suc, ◌+◌, ◌-◌, ◌<◌, ◌≤◌, List, [], ◌∷◌, ◌++◌, length, Option, Some, None, Ok, Err, refl, sym, ap, ◌∙◌, arith}
+use Rattle.std.proofs.lemmas.List.{length-append}
+use Rattle.reading_model.specs.Outlook.{ended, failed, over, final, at_end, at_fault, at_limit}
 use Rattle.reading_model.specs.Rules.{Front, whole, short, last, AreSteady}
 use Rattle.xdf_model.specs.declared.types.Shape.{Shape}
 use Rattle.xdf_model.specs.Sample.{Sample}
@@ -12,13 +12,12 @@ use Rattle.feed_laws.specs.Followed.{followed, farther}
 use Rattle.feed_laws.proofs.Cut.{rest_shorter}
 use Rattle.feed_laws.proofs.Steady.{steady_sample}
 use Rattle.feed_reply.proofs.Longer.{more_bytes}
-use Rattle.reply_model.specs.declared.Reply.{Reply}
 use Rattle.reply_model.specs.declared.ReplyStep.{ReplyStep}
 use Rattle.reply_model.specs.declared.ReplyStep.TheVariants.{Done, More, Refused}
 use Rattle.reply_model.specs.Reply.{reply_in}
 use Rattle.inlet_model.specs.declared.end.FeedEnd.{FeedEnd}
-use Rattle.inlet_model.specs.declared.end.FeedEnd.TheVariants.{Whole, Limit, TornReply, ReplyRefused, TornSample, BadTag, BadWidth, SampleTooLong, ReadFault, ByteLimit}
-use Rattle.inlet_model.specs.Inlet.{FeedState, before_reply, behind_reply, by_reply, by_sample, by_fault, by_read, by_quota, feed_front, feed_end, feed_kind, feed_rules, end_of_input, one_less}
+use Rattle.inlet_model.specs.declared.end.FeedEnd.TheVariants.{Limit, ReplyRefused, BadTag, BadWidth, SampleTooLong}
+use Rattle.inlet_model.specs.Inlet.{FeedState, before_reply, behind_reply, by_reply, by_sample, by_fault, by_read, by_quota, feed_front, feed_end, feed_kind, feed_rules}
 use Rattle.inlet_laws.proofs.Replies.{reply_size}
 
 abbrev FeedFront : Type 0

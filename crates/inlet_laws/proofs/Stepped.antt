@@ -1,5 +1,5 @@
 -- What the rules of a feed give behind the reply, by the sample at the front.
-use Rattle.std.proofs.Common.{◌≡◌, ℕ, zero, suc, ◌+◌, ◌-◌, ◌<◌, List, [], ◌∷◌, length, drop, Option, Some, None, Ok, Err, refl, sym, ap, ◌∙◌, arith}
+use Rattle.std.proofs.Common.{◌≡◌, ℕ, zero, suc, ◌+◌, ◌-◌, List, [], ◌∷◌, length, Option, Some, None, Err, refl, ap, ◌∙◌, arith}
 use Rattle.reading_model.specs.Outlook.{How, ended, failed, over, All, first}
 use Rattle.reading_model.specs.Rules.{by_front, all_by}
 use Rattle.xdf_model.specs.declared.types.Shape.{Shape}
@@ -10,7 +10,7 @@ use Rattle.feed_laws.proofs.Steps.{taken, failed as faulty}
 use Rattle.feed_laws.proofs.Cut.{rest_within}
 use Rattle.inlet_model.specs.declared.end.FeedEnd.{FeedEnd}
 use Rattle.inlet_model.specs.declared.end.FeedEnd.TheVariants.{Limit}
-use Rattle.inlet_model.specs.Inlet.{FeedState, behind_reply, one_less, by_read, feed_end, feed_rules}
+use Rattle.inlet_model.specs.Inlet.{behind_reply, one_less, by_read, feed_end, feed_rules}
 use Rattle.inlet_laws.specs.FeedOf.{cut_sample, no_sample, IsBelow}
 
 -- what is given of so many things behind the reply

@@ -1,4 +1,4 @@
-use Rattle.std.proofs.Common.{◌∙◌, sym, ap}
+use Rattle.std.proofs.Common.{◌∙◌, ap}
 use Rattle.piece_reader.proofs.Finals.{final_stays}
 use Rattle.reading_model.specs.Outlook.{All}
 use Rattle.xdf_model.specs.Sample.{Sample}
