@@ -202,15 +202,15 @@ pub width_within : (order : Order) (room : ℕ) (b : List ℕ) → 1 ≤ length 
 width_within order room [] some e = absurd (omega (arith, some))
 width_within order room (w ∷ b) some e = width_bounds w (width_is_right order room w b e)
 
-pub number_within : (order : Order) (room : ℕ) (b : List ℕ) → 1 ≤ length b → text_at order room b ≡ failed short → get_or b 0 0 ≤ length b - 1 → ordered_number order (get_or b 0 0) (drop 1 b) ≤ room
+number_within : (order : Order) (room : ℕ) (b : List ℕ) → 1 ≤ length b → text_at order room b ≡ failed short → get_or b 0 0 ≤ length b - 1 → ordered_number order (get_or b 0 0) (drop 1 b) ≤ room
 number_within order room [] some e enough = absurd (omega (arith, some))
 number_within order room (w ∷ b) some e enough = length_fits order room w b (width_is_right order room w b e) (omega (arith, enough)) e
 
-pub cut_in_length : (order : Order) (room : ℕ) (b more : List ℕ) → 1 ≤ length b → text_at order room b ≡ failed short → length (b ++ more) < 1 + get_or b 0 0 → text_at order room (b ++ more) ≡ failed short
+cut_in_length : (order : Order) (room : ℕ) (b more : List ℕ) → 1 ≤ length b → text_at order room b ≡ failed short → length (b ++ more) < 1 + get_or b 0 0 → text_at order room (b ++ more) ≡ failed short
 cut_in_length order room [] more some e few = absurd (omega (arith, some))
 cut_in_length order room (w ∷ b) more some e few = length_cut order room w (b ++ more) (width_is_right order room w b e) (omega (arith, few))
 
-pub cut_in_text : (order : Order) (room : ℕ) (b more : List ℕ) → 1 ≤ length b → text_at order room b ≡ failed short → get_or b 0 0 ≤ length b - 1 → length (b ++ more) < 1 + get_or b 0 0 + ordered_number order (get_or b 0 0) (drop 1 b)
+cut_in_text : (order : Order) (room : ℕ) (b more : List ℕ) → 1 ≤ length b → text_at order room b ≡ failed short → get_or b 0 0 ≤ length b - 1 → length (b ++ more) < 1 + get_or b 0 0 + ordered_number order (get_or b 0 0) (drop 1 b)
     → text_at order room (b ++ more) ≡ failed short
 cut_in_text order room [] more some e enough few = absurd (omega (arith, some))
 cut_in_text order room (w ∷ b) more some e enough few =
@@ -219,6 +219,28 @@ cut_in_text order room (w ∷ b) more some e enough few =
     let same = ordered_number-append order w b more there in
     let fits = length_fits order room w b good there e in
     text_cut order room w (b ++ more) good (omega (arith, there, length-append b more)) (omega (arith, same, fits)) (omega (arith, same, few))
+
+-- with fewer bytes a text is short, and it takes no more than the room allows
+pub record IsNeeded (order : Order) (room : ℕ) (b : List ℕ) (n : ℕ) : Type 0 where
+  pub within : n ≤ 9 + room
+  pub cut : (more : List ℕ) → length (b ++ more) < n → text_at order room (b ++ more) ≡ failed short
+
+-- the width is there, and its length isn't
+pub needs_length : (order : Order) (room : ℕ) (b : List ℕ) (w : ℕ) → 1 ≤ length b → text_at order room b ≡ failed short → w ≡ get_or b 0 0 → IsNeeded order room b (1 + w)
+needs_length order room b w some e is = record {
+  within = omega (arith, is, (width_within order room b some e).1);
+  cut = λ more few. cut_in_length order room b more some e (omega (arith, is, few));
+}
+
+-- the length is there too
+pub needs_text : (order : Order) (room : ℕ) (b : List ℕ) (w n : ℕ) → 1 ≤ length b → text_at order room b ≡ failed short → w ≡ get_or b 0 0 → w ≤ length (drop 1 b) → n ≡ ordered_number order w (drop 1 b) → IsNeeded order room b (1 + w + n)
+needs_text order room b w n some e is enough number =
+    let there : get_or b 0 0 ≤ length b - 1 = omega (arith, is, enough, length-drop 1 b) in
+    let same : n ≡ ordered_number order (get_or b 0 0) (drop 1 b) = number ∙ ap (λ (k : ℕ). ordered_number order k (drop 1 b)) is in
+    record {
+      within = omega (arith, is, (width_within order room b some e).1, same, number_within order room b some e there);
+      cut = λ more few. cut_in_text order room b more some e there (omega (arith, is, same, few));
+    }
 
 pub rest_within : (order : Order) (room at : ℕ) (b : List ℕ) (v : Value) (rest : List ℕ) → at ≤ length b → text_at order room (drop at b) ≡ taken v rest → length rest ≤ length b
 rest_within order room at b v rest there e = (rest_at order room at b v rest there e).0
