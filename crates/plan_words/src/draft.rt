@@ -127,7 +127,12 @@ impl Draft {
 
     /// Adds a line that says something, or tells the first reason against it.
     #[tactic(auto, unfolding(crate::specs::Drafts::refused_with, crate::specs::Drafts::with_text))]
-    pub(crate) fn take_line(&mut self, alloc: Global, out: &Word, line: &[u8]) -> Result<(), LineFault>
+    pub(crate) fn take_line(
+        &mut self,
+        alloc: Global,
+        out: &Word,
+        line: &[u8],
+    ) -> Result<(), LineFault>
         ensures { Adds result (refused_with out.now self.old line.now) self.new (with_text self.old line.now) }
     {
         let Some(text) = read_text(line) else {

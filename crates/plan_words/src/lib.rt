@@ -16,7 +16,6 @@ mod reason;
 mod text;
 mod words;
 
-
 pub use command::{Command, Usage, read_words};
 pub use plan::{PlanError, read_plan};
 pub use plan_model::{FeedFrom, FeedLine, FeedLines, Mode, Plan, PlanWhy, Top};
