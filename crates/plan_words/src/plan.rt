@@ -16,6 +16,8 @@ use rec_base::Word;
 use std::alloc::Global;
 use thiserror::Error;
 
+const MOST_BYTES: usize = 1_048_576;
+
 /// Why there is no plan.
 #[derive(Clone, Copy, Debug, PartialEq, Eq, Error)]
 pub enum PlanError {
@@ -119,7 +121,7 @@ pub fn read_plan(alloc: Global, text: &[u8], out: &Word) -> Result<Plan, PlanErr
     ensures sound { IfOk result (λ plan. IsPlan out.now plan) }
     ensures fault { IfFault result (λ line why. plan_in text.now out.now ≡ Err (line, why)) }
 {
-    if text.len() > 1_048_576 {
+    if text.len() > MOST_BYTES {
         return Err(refused(0, PlanWhy::TooLong));
     }
     let draft = read_lines(alloc, text, out)?;
