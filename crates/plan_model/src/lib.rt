@@ -3,8 +3,9 @@
 //!
 //! The definitions stand in `specs/`: the first row of a table (`Table`), the lines of a text and
 //! the words of a line (`Text`), the table by which a line of a plan is refused (`PlanLine`), the
-//! plan of a text (`Plan`), and the command of some words (`Commands`). Here are also the types that
-//! the definitions and the code share. Beside the list of feeds this crate does nothing.
+//! plan of a text (`Plan`), what holds of every plan (`Sound`), and the command of some words
+//! (`Commands`). Here are also the types that the definitions and the code share. Beside the list of
+//! feeds this crate does nothing.
 #![tactic(auto)]
 
 mod list;
@@ -16,3 +17,6 @@ pub use list::FeedLines;
 pub use plan::{FeedFrom, FeedLine, Mode, Plan};
 pub use top::Top;
 pub use why::PlanWhy;
+
+#[cfg(test)]
+mod tests;

@@ -1,13 +1,11 @@
 -- The table for each kind of line.
-use Rattle.std.proofs.Common.{◌≡◌, ℕ, ◌+◌, ◌-◌, ◌<◌, ◌≤◌, ◌||◌, ◌&&◌, Bool, true, false, not, List, [], ◌∷◌, ◌++◌, length, cond, Option, Some, None, Result, Ok, Err, refl, ap, sym, ◌∙◌, arith, nat_eq, nat_lt, subst}
+use Rattle.std.proofs.Common.{◌≡◌, ℕ, ◌-◌, ◌≤◌, ◌||◌, ◌&&◌, Bool, true, false, not, List, [], ◌∷◌, ◌++◌, length, cond, Option, Some, None, Result, Ok, Err, refl, ap, sym, ◌∙◌, arith, nat_eq, nat_lt, subst}
 use Rattle.std.specs.Prelude.{codes}
 use Rattle.std.specs.Result.{IsErrAnd}
 use Rattle.std.specs.Option.{option_or}
-use Rattle.std.specs.List.{list_any}
 use Rattle.std.specs.Str.{bytes_eq}
 use Rattle.std.proofs.lemmas.List.Folds.{list_any-append}
 use Rattle.plan_model.specs.declared.plan.FeedFrom.{FeedFrom}
-use Rattle.plan_model.specs.declared.plan.FeedLine.{FeedLine}
 use Rattle.std.specs.Cmp.Lexicographic.{bytes_decides}
 use Rattle.std.proofs.lemmas.Bool.{eqb-true}
 use Rattle.std.proofs.lemmas.Bool.Decides.{nat_tests}
@@ -15,11 +13,10 @@ use Rattle.plan_model.specs.declared.why.PlanWhy.{PlanWhy}
 use Rattle.plan_model.specs.declared.why.PlanWhy.TheVariants.{UnknownWord, WrongCount, BadKind, BadNumber}
 use Rattle.plan_model.specs.Table.{first_that_holds}
 use Rattle.plan_model.specs.Text.{Words}
-use Rattle.plan_model.specs.PlanLine.{word, has_word, number, is_ring, is_batch, is_mode, is_feed, is_file, is_tcp, has_limit, ring_limit, batch_limit, id_limit, is_number, is_unknown, has_wrong_count, has_bad_kind, has_wrong_feed_count, has_no_limit_word, has_bad_number, port_number, limit_number, numbers_in, from_of, limit_of, feed_of}
+use Rattle.plan_model.specs.PlanLine.{word, has_word, number, is_ring, is_batch, is_mode, is_feed, is_file, is_tcp, has_limit, ring_limit, batch_limit, id_limit, is_number, is_unknown, has_wrong_count, has_bad_kind, has_wrong_feed_count, has_no_limit_word, has_bad_number, port_number, limit_number, from_of, limit_of, feed_of}
 use Rattle.plan_model.specs.declared.plan.Mode.{Mode as ModeValue}
 use Rattle.plan_model.specs.Plan.{mode_of}
 use Rattle.plan_words.specs.declared.line.PlanLine.TheVariants.{Ring, Batch, Mode}
-use Rattle.plan_words.specs.declared.line.FeedForm.{FeedForm}
 use Rattle.plan_words.specs.declared.fault.LineFault.{LineFault}
 use Rattle.plan_words.specs.declared.fault.LineFault.TheVariants.{Refused, Memory}
 use Rattle.plan_words.specs.Read.{own_refusal, setting_refusal, mode_refusal, count_refusal, form_refusal, port_refusal, limit_refusal, bad_among, form_of, Reads, line_of}
@@ -81,7 +78,7 @@ file_rows : (n : ℕ) (words : Words) (b : Bool) → nat_eq n 8 ≡ b
     ≡ first_that_holds ((not (nat_eq n 6 || nat_eq n 8), WrongCount) ∷ (nat_eq n 8 && not (has_word 6 (codes "limit") words), BadKind) ∷ [])
 file_rows n words true e =
     let P : ℕ → Type 0 = λ m. first_that_holds ((not (nat_eq m 6 || nat_eq m 8) || false, WrongCount) ∷ ((nat_eq m 8 || false) && not (has_word (m - 2) (codes "limit") words), BadKind) ∷ [])
-      ≡ first_that_holds ((not (nat_eq m 6 || nat_eq m 8), WrongCount) ∷ (nat_eq m 8 && not (has_word 6 (codes "limit") words), BadKind) ∷ []) in
+    ≡ first_that_holds ((not (nat_eq m 6 || nat_eq m 8), WrongCount) ∷ (nat_eq m 8 && not (has_word 6 (codes "limit") words), BadKind) ∷ []) in
     subst P (sym (eqb-true n 8 e)) refl
 file_rows n words false e = rw (e, or_nothing (not (nat_eq n 6 || false))) refl
 
@@ -96,7 +93,7 @@ tcp_rows : (n : ℕ) (words : Words) (b : Bool) → nat_eq n 10 ≡ b
     ≡ first_that_holds ((not (nat_eq n 8 || nat_eq n 10), WrongCount) ∷ (nat_eq n 10 && not (has_word 8 (codes "limit") words), BadKind) ∷ [])
 tcp_rows n words true e =
     let P : ℕ → Type 0 = λ m. first_that_holds ((not (nat_eq m 8 || nat_eq m 10), WrongCount) ∷ (nat_eq m 10 && not (has_word (m - 2) (codes "limit") words), BadKind) ∷ [])
-      ≡ first_that_holds ((not (nat_eq m 8 || nat_eq m 10), WrongCount) ∷ (nat_eq m 10 && not (has_word 8 (codes "limit") words), BadKind) ∷ []) in
+    ≡ first_that_holds ((not (nat_eq m 8 || nat_eq m 10), WrongCount) ∷ (nat_eq m 10 && not (has_word 8 (codes "limit") words), BadKind) ∷ []) in
     subst P (sym (eqb-true n 10 e)) refl
 tcp_rows n words false e = rw e refl
 
@@ -198,6 +195,27 @@ feed_taken words feed form id port limit =
     let more : bad_among (limit_number words) ≡ false = if_none (bad_among (limit_number words)) limit in
     let all : bad_among (feed_numbers words) ≡ false = bad_is words ∙ rw (id, good, more) refl in
     formed words false feed form all
+
+-- the numbers of an accepted feed
+pub record GoodNumbers (words : Words) : Type 0 where
+  pub id : is_number id_limit (word 1 words) ≡ true
+  pub port : bad_among (port_number words) ≡ false
+  pub limit : bad_among (limit_number words) ≡ false
+
+none_behind : {A : Type 0} (o p : Option A) → option_or o p ≡ None → p ≡ None
+none_behind None p e = e
+none_behind (Some x) p e = absurd cc
+
+no_bad : (id port limit : Bool) → (not id || (port || limit)) ≡ false → (id ≡ true) × (port ≡ false) × (limit ≡ false)
+no_bad true true limit e = absurd cc
+no_bad true false limit e = (refl, refl, e)
+no_bad false port limit e = absurd cc
+
+pub good_numbers : (words : Words) → is_feed words ≡ true → own_refusal words ≡ None → GoodNumbers words
+good_numbers words feed own =
+    let none = none_behind (form_refusal words) (first_that_holds ((bad_among (feed_numbers words), BadNumber) ∷ [])) (sym (feed_own words feed) ∙ own) in
+    let good = no_bad (is_number id_limit (word 1 words)) (bad_among (port_number words)) (bad_among (limit_number words)) (sym (bad_is words) ∙ if_none (bad_among (feed_numbers words)) none) in
+    record { id = good.0; port = good.1; limit = good.2 }
 
 pub feed_is : (words : Words) (id : ℕ) (doc : List ℕ) (from : FeedFrom) (limit : Option ℕ) → id ≡ number (word 1 words) → doc ≡ word 3 words → from ≡ from_of words → limit ≡ limit_of words → record { id = id; doc = doc; from = from; limit = limit } ≡ feed_of words
 unfolding feed_of

@@ -6,3 +6,4 @@ pub mod ByKind
 pub mod LineByLine
 pub mod Together
 pub mod Answered
+pub mod Sound

@@ -1,5 +1,5 @@
 -- From line to line.
-use Rattle.std.proofs.Common.{◌≡◌, ℕ, zero, suc, ◌+◌, ◌<◌, ◌≤◌, Bool, true, false, cond, not, List, [], ◌∷◌, length, map, drop, Some, None, Option, Result, Ok, Err, refl, sym, ap, ◌∙◌, arith, nat_eq, nat_lt, drop_of_length-le, take_all, zero-le}
+use Rattle.std.proofs.Common.{◌≡◌, ℕ, suc, ◌+◌, ◌<◌, ◌≤◌, Bool, true, false, cond, not, List, [], ◌∷◌, length, Some, None, Option, Ok, Err, refl, ap, ◌∙◌, arith, nat_eq, nat_lt, drop_of_length-le, take_all}
 use Rattle.std.specs.List.{slice_split, filter, enumerate_from, position_or_len, before_first, after_first}
 use Rattle.std.proofs.lemmas.Bool.{ltb-true, ltb-false}
 use Rattle.std.proofs.lemmas.List.Splits.{slice_split_first}

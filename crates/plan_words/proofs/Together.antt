@@ -1,40 +1,37 @@
 -- What lines say together.
-use Rattle.std.proofs.Common.{◌≡◌, ℕ, ◌-◌, ◌||◌, ◌&&◌, Bool, true, false, cond, not, List, [], ◌∷◌, ◌++◌, length, map, Option, Some, None, Result, Ok, Err, refl, sym, ap, ◌∙◌, nat_eq, nat_lt}
+use Rattle.std.proofs.Common.{◌≡◌, ℕ, ◌||◌, ◌&&◌, Bool, true, false, cond, not, List, [], ◌∷◌, ◌++◌, length, map, Option, Some, None, Result, Ok, Err, refl, sym, ap, ◌∙◌, nat_eq, nat_lt}
 use Rattle.std.specs.Prelude.{codes, is_some, unwrap_or}
 use Rattle.std.specs.Option.{option_map, option_or, option_map_or}
-use Rattle.std.specs.List.{list_any, filter, find}
-use Rattle.std.specs.Str.{bytes_eq}
+use Rattle.std.specs.List.{filter, find}
 use Rattle.std.specs.Cmp.Lexicographic.{bytes_decides}
 use Rattle.std.proofs.lemmas.Bool.{ne_eqb}
 use Rattle.std.proofs.lemmas.List.{append-nil, map-append}
 use Rattle.std.proofs.lemmas.List.Folds.{find-append}
 use Rattle.std.proofs.lemmas.List.Elements.{filter-append}
 use Rattle.plan_model.specs.declared.why.PlanWhy.{PlanWhy}
-use Rattle.plan_model.specs.declared.why.PlanWhy.TheVariants.{UnknownWord, WrongCount, BadKind, BadNumber, Repeated, TooManyFeeds, OutputNamed, NotText, NoFeed, TooLong}
+use Rattle.plan_model.specs.declared.why.PlanWhy.TheVariants.{UnknownWord, WrongCount, BadKind, BadNumber, NotText, NoFeed, TooLong}
 use Rattle.plan_model.specs.declared.plan.Mode.TheVariants.{Threads}
 use Rattle.plan_model.specs.declared.plan.FeedLine.{FeedLine}
 use Rattle.plan_model.specs.declared.plan.Plan.{Plan}
 use Rattle.plan_model.specs.Table.{first_that_holds}
 use Rattle.plan_model.specs.Text.{Words, words_in, said_lines}
-use Rattle.plan_model.specs.PlanLine.{word, has_word, number, is_ring, is_batch, is_mode, is_feed, is_file, is_tcp, from_of, limit_of, feed_of, feeds_in, given, is_no_text, is_unknown, has_wrong_count, has_bad_kind, has_wrong_feed_count, has_no_limit_word, has_bad_number, is_repeated, is_one_too_many, names_output, word_refusals, later_refusals, line_refusal}
+use Rattle.plan_model.specs.PlanLine.{word, has_word, number, is_ring, is_batch, is_mode, is_feed, is_file, is_tcp, feed_of, feeds_in, given, is_no_text, is_unknown, has_wrong_count, has_bad_kind, has_wrong_feed_count, has_no_limit_word, has_bad_number, is_repeated, is_one_too_many, names_output, word_refusals, later_refusals, line_refusal}
 use Rattle.plan_model.specs.Plan.{mode_of, plan_of, Refusal, unless, accepted, with_feed, why_number, text_limit, plan_in}
 use Rattle.plan_words.specs.declared.draft.Draft.{Draft}
-use Rattle.plan_words.specs.declared.line.PlanLine.{PlanLine}
-use Rattle.plan_words.specs.declared.line.PlanLine.TheVariants.{Ring, Batch, Mode, Feed}
 use Rattle.plan_words.specs.Read.{own_refusal, line_of}
-use Rattle.plan_words.specs.Drafts.{draft_of, feed_names, is_path, feed_refusal, once, refused_beside, with_line, text_refusal, refused_with, with_text, drafted, finished}
+use Rattle.plan_words.specs.Drafts.{draft_of, feed_names, feed_refusal, once, refused_beside, with_line, refused_with, with_text, drafted, finished}
 use Rattle.plan_words.proofs.ByKind.{apart, first-append}
 
 -- ---- the kind of an accepted line
 
 -- a line is of one of four kinds
-data Kind (words : Words) : Type 0 where
+pub data Kind (words : Words) : Type 0 where
   a_ring : is_ring words ≡ true → is_batch words ≡ false → is_mode words ≡ false → is_feed words ≡ false → Kind words
   a_batch : is_ring words ≡ false → is_batch words ≡ true → is_mode words ≡ false → is_feed words ≡ false → Kind words
   a_mode : is_ring words ≡ false → is_batch words ≡ false → is_mode words ≡ true → is_feed words ≡ false → Kind words
   a_feed : is_ring words ≡ false → is_batch words ≡ false → is_mode words ≡ false → is_feed words ≡ true → Kind words
 
-some_none : (b : Bool) (why : PlanWhy) (o : Option PlanWhy) → cond b (Some why) o ≡ None → (b ≡ false) × (o ≡ None)
+pub some_none : (b : Bool) (why : PlanWhy) (o : Option PlanWhy) → cond b (Some why) o ≡ None → (b ≡ false) × (o ≡ None)
 some_none true why o e = absurd cc
 some_none false why o e = (refl, e)
 
@@ -46,11 +43,11 @@ kind_by words false false false true hr hb hm hf e = a_feed hr hb hm hf
 kind_by words false false false false hr hb hm hf e = absurd cc
 
 -- what an accepted line isn't
-record Accepted (words : Words) : Type 0 where
-  known : is_unknown words ≡ false
-  right_kind : has_bad_kind words ≡ false
+pub record Accepted (words : Words) : Type 0 where
+  pub known : is_unknown words ≡ false
+  pub right_kind : has_bad_kind words ≡ false
 
-accepted_line : (words : Words) → own_refusal words ≡ None → Accepted words
+pub accepted_line : (words : Words) → own_refusal words ≡ None → Accepted words
 unfolding own_refusal
 accepted_line words own =
     let a = some_none (is_unknown words) UnknownWord (first_that_holds ((has_wrong_count words, WrongCount) ∷ (has_bad_kind words, BadKind) ∷ (has_wrong_feed_count words, WrongCount) ∷ (has_no_limit_word words, BadKind) ∷ (has_bad_number words, BadNumber) ∷ [])) own in
@@ -58,7 +55,7 @@ accepted_line words own =
     let d = some_none (has_bad_kind words) BadKind (first_that_holds ((has_wrong_feed_count words, WrongCount) ∷ (has_no_limit_word words, BadKind) ∷ (has_bad_number words, BadNumber) ∷ [])) b.1 in
     record { known = a.0; right_kind = d.0 }
 
-kind_of : (words : Words) → is_unknown words ≡ false → Kind words
+pub kind_of : (words : Words) → is_unknown words ≡ false → Kind words
 unfolding is_unknown
 kind_of words known = kind_by words (is_ring words) (is_batch words) (is_mode words) (is_feed words) refl refl refl refl known
 
@@ -216,7 +213,7 @@ same_refusal out before line =
     text_by (is_no_text line) (own_refusal words) (refused_beside out (draft_of before) (line_of words)) (first_that_holds (later_refusals out before words)) (beside_same out before words)
     ∙ ap (λ (o : Option PlanWhy). cond (is_no_text line) (Some NotText) o) (sym (first-append (word_refusals words) (later_refusals out before words)))
 
-own_none : (b : Bool) (own beside : Option PlanWhy) → option_or (cond b (Some NotText) own) beside ≡ None → (own ≡ None) × (beside ≡ None)
+pub own_none : (b : Bool) (own beside : Option PlanWhy) → option_or (cond b (Some NotText) own) beside ≡ None → (own ≡ None) × (beside ≡ None)
 own_none true own beside e = absurd cc
 own_none false None beside e = (refl, e)
 own_none false (Some why) beside e = absurd cc

@@ -1,6 +1,5 @@
 -- What is answered, unless memory ran out.
 use Rattle.std.specs.Prelude.{◌≡◌, ℕ, Result, Ok, Err}
-use Rattle.plan_model.specs.declared.plan.Plan.{Plan}
 use Rattle.plan_model.specs.Plan.{Refusal}
 use Rattle.plan_words.specs.declared.plan.PlanError.{PlanError}
 use Rattle.plan_words.specs.declared.plan.PlanError.TheVariants.{Fault, Memory}

@@ -6,6 +6,7 @@ ghost use Rattle.plan_words.specs.Commands.{command_view};
 
 use plan_model::Top;
 use rec_base::Word;
+use thiserror::Error;
 
 /// A command with the names that it is given, which are borrowed from the words.
 #[derive(Clone, Copy, Debug)]
@@ -17,7 +18,8 @@ pub enum Command<'w> {
 }
 
 /// The words break a usage of this number.
-#[derive(Clone, Copy, Debug, PartialEq, Eq)]
+#[derive(Clone, Copy, Debug, PartialEq, Eq, Error)]
+#[error("usage {why}")]
 pub struct Usage {
     pub why: u8,
 }

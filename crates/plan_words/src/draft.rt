@@ -1,16 +1,18 @@
 //! What the lines of a plan say together.
 
-ghost use Rattle.std.specs.Prelude.{◌≡◌, ◌==◌, ◌||◌, [], length, nat_lt};
+ghost use Rattle.std.specs.Prelude.{◌≡◌, ◌==◌, []};
 ghost use Rattle.std.specs.List.{list_any};
-ghost use Rattle.plan_model.specs.PlanLine.{is_no_text};
-ghost use Rattle.plan_words.specs.Drafts.{IsText, draft_of, feed_names, refused_beside, with_line, Adds, refused_with, with_text, finished};
+ghost use Rattle.plan_words.specs.Drafts.{draft_of, feed_names, refused_beside, with_line, Adds, refused_with, with_text, finished};
 
 use crate::fault::LineFault;
 use crate::line::{PlanLine, read_line};
+use crate::text::read_text;
 use crate::words::LineWords;
 use plan_model::{FeedFrom, FeedLine, FeedLines, Mode, Plan, PlanWhy};
 use rec_base::Word;
 use std::alloc::Global;
+
+const MOST_FEEDS: usize = 64;
 
 /// What the lines so far say.
 #[derive(Drop)]
@@ -19,25 +21,6 @@ pub(crate) struct Draft {
     pub(crate) batch: Option<u64>,
     pub(crate) mode: Option<Mode>,
     pub(crate) feeds: FeedLines,
-}
-
-fn has_control(line: &[u8]) -> bool
-    ensures { result ≡ list_any (λ b. nat_lt b 32 || b == 127) line.now }
-{
-    line.iter().any(|byte| *byte < 32 || *byte == 127)
-}
-
-// A line as text, if it is some without control bytes.
-fn read_text(line: &[u8]) -> Option<&str>
-    ensures { IsText line.now result }
-{
-    if has_control(line) {
-        return None;
-    }
-    match str::from_utf8(line) {
-        Ok(text) => Some(text),
-        Err(_) => None,
-    }
 }
 
 // Whether one of the feeds has this id.
@@ -87,7 +70,7 @@ impl Draft {
         if has_id(&self.feeds, feed.id) {
             return Err(LineFault::Refused(PlanWhy::Repeated));
         }
-        if self.feeds.len() > 63 {
+        if self.feeds.len() >= MOST_FEEDS {
             return Err(LineFault::Refused(PlanWhy::TooManyFeeds));
         }
         if names_output(&feed, out) {
@@ -127,7 +110,12 @@ impl Draft {
 
     /// Adds a line that says something, or tells the first reason against it.
     #[tactic(auto, unfolding(crate::specs::Drafts::refused_with, crate::specs::Drafts::with_text))]
-    pub(crate) fn take_line(&mut self, alloc: Global, out: &Word, line: &[u8]) -> Result<(), LineFault>
+    pub(crate) fn take_line(
+        &mut self,
+        alloc: Global,
+        out: &Word,
+        line: &[u8],
+    ) -> Result<(), LineFault>
         ensures { Adds result (refused_with out.now self.old line.now) self.new (with_text self.old line.now) }
     {
         let Some(text) = read_text(line) else {

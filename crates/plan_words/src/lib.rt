@@ -2,8 +2,9 @@
 //! this project's own.
 //!
 //! `read_plan` promises exactly the plan of a text, or the first line that is refused with its
-//! reason; `read_words` exactly the command of some words, or the first usage that they break. Each
-//! byte of a plan is read a fixed number of times, and what a plan names is copied once.
+//! reason; `read_words` exactly the command of some words, or the first usage that they break, and
+//! takes no memory. Each byte of a plan is read at most a fixed number of times, and what a plan
+//! names is copied once.
 #![tactic(auto)]
 
 mod command;
@@ -15,7 +16,6 @@ mod plan;
 mod reason;
 mod text;
 mod words;
-
 
 pub use command::{Command, Usage, read_words};
 pub use plan::{PlanError, read_plan};

@@ -12,6 +12,16 @@ use plan_model::{FeedFrom, FeedLine, Mode, PlanWhy};
 use rec_base::Word;
 use std::alloc::Global;
 
+const MOST_RING: u64 = 1_048_576;
+
+const MOST_BATCH: u64 = 65_536;
+
+const MOST_ID: u64 = 65_535;
+
+const MOST_PORT: u64 = 65_535;
+
+const MOST_SAMPLES: u64 = 1_099_511_627_776;
+
 /// What a line says.
 #[derive(Drop)]
 pub(crate) enum PlanLine {
@@ -103,7 +113,7 @@ fn read_from(alloc: Global, words: &LineWords, tcp: bool) -> Result<FeedFrom, Li
         let path = Word::from_bytes(alloc, words.get(5).as_bytes())?;
         return Ok(FeedFrom::File(path));
     }
-    let Some(port) = read_number(words.get(6), 65_535) else {
+    let Some(port) = read_number(words.get(6), MOST_PORT) else {
         return Err(LineFault::Refused(PlanWhy::BadNumber));
     };
     let host = Word::from_bytes(alloc, words.get(5).as_bytes())?;
@@ -122,7 +132,7 @@ fn read_limit(words: &LineWords, limited: bool) -> Result<Option<u64>, LineFault
     if !limited {
         return Ok(None);
     }
-    match read_number(words.get(words.len() - 1), 1_099_511_627_776) {
+    match read_number(words.get(words.len() - 1), MOST_SAMPLES) {
         Some(limit) => Ok(Some(limit)),
         None => Err(LineFault::Refused(PlanWhy::BadNumber)),
     }
@@ -134,7 +144,7 @@ fn read_feed(alloc: Global, words: &LineWords) -> Result<FeedLine, LineFault>
     ensures { Reads result (own_refusal words.now) (feed_of words.now) }
 {
     let form = read_form(words)?;
-    let Some(id) = read_number(words.get(1), 65_535) else {
+    let Some(id) = read_number(words.get(1), MOST_ID) else {
         return Err(LineFault::Refused(PlanWhy::BadNumber));
     };
     let from = read_from(alloc, words, form.tcp)?;
@@ -153,11 +163,11 @@ pub(crate) fn read_line(alloc: Global, words: &LineWords) -> Result<PlanLine, Li
     ensures { Reads result (own_refusal words.now) (line_of words.now) }
 {
     if words.has(0, "ring") {
-        let n = read_setting(words, 1_048_576)?;
+        let n = read_setting(words, MOST_RING)?;
         return Ok(PlanLine::Ring(n));
     }
     if words.has(0, "batch") {
-        let n = read_setting(words, 65_536)?;
+        let n = read_setting(words, MOST_BATCH)?;
         return Ok(PlanLine::Batch(n));
     }
     if words.has(0, "mode") {

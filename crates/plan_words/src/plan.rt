@@ -3,6 +3,7 @@
 ghost use Rattle.std.specs.Prelude.{◌≡◌, ◌≤◌, [], length, IfOk, Ok, Err};
 ghost use Rattle.plan_model.specs.Text.{said_lines};
 ghost use Rattle.plan_model.specs.Plan.{why_number, text_limit, plan_in};
+ghost use Rattle.plan_model.specs.Sound.{IsPlan};
 ghost use Rattle.plan_words.specs.Drafts.{drafted, draft_of, stepped};
 ghost use Rattle.plan_words.specs.Tells.{Steps, TellsDraft, IfFault};
 
@@ -14,6 +15,8 @@ use plan_model::{Plan, PlanWhy};
 use rec_base::Word;
 use std::alloc::Global;
 use thiserror::Error;
+
+const MOST_BYTES: usize = 1_048_576;
 
 /// Why there is no plan.
 #[derive(Clone, Copy, Debug, PartialEq, Eq, Error)]
@@ -110,11 +113,15 @@ fn read_lines(alloc: Global, text: &[u8], out: &Word) -> Result<Draft, PlanError
 /// Of line 0 are told: `TooLong` (10), before anything else, where the text has more than 1,048,576
 /// bytes; `NoFeed` (7) where no line is refused and none is a feed. `Memory` comes for want of
 /// memory alone.
+///
+/// So a plan has 1 to 64 feeds with different ids, all its numbers are in their ranges, and none of
+/// its paths is the output's name (`sound`).
 pub fn read_plan(alloc: Global, text: &[u8], out: &Word) -> Result<Plan, PlanError>
     ensures plan { IfOk result (λ plan. plan_in text.now out.now ≡ Ok plan) }
+    ensures sound { IfOk result (λ plan. IsPlan out.now plan) }
     ensures fault { IfFault result (λ line why. plan_in text.now out.now ≡ Err (line, why)) }
 {
-    if text.len() > 1_048_576 {
+    if text.len() > MOST_BYTES {
         return Err(refused(0, PlanWhy::TooLong));
     }
     let draft = read_lines(alloc, text, out)?;

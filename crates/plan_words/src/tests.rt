@@ -111,7 +111,11 @@ fn a_line_is_refused_by_the_first_row_that_holds(rt: HostRuntime) -> Result<(), 
         ("feed 0 doc h tcp a 1 u limot 1", 5),
         ("mode frob", 5),
     ] {
-        assert_eq!(rt; refusal(rt.alloc(), text.as_bytes())?, (1, why), "in {text}");
+        assert_eq!(rt;
+            refusal(rt.alloc(), text.as_bytes())?,
+            (1, why),
+            "in {text}"
+        );
     }
     for (text, why) in [
         ("ring 0", 3),
@@ -126,7 +130,11 @@ fn a_line_is_refused_by_the_first_row_that_holds(rt: HostRuntime) -> Result<(), 
         let front = "ring 4\nbatch 4\nmode turns\nfeed 1 doc h file a\n";
         let text = format!(in rt.alloc(); "{front}{text}")?;
         let line = if why == 0 { 0 } else { 5 };
-        assert_eq!(rt; refusal(rt.alloc(), text.as_bytes())?, (line, why), "in {text}");
+        assert_eq!(rt;
+            refusal(rt.alloc(), text.as_bytes())?,
+            (line, why),
+            "in {text}"
+        );
     }
     Ok(())
 }

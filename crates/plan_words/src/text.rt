@@ -1,8 +1,9 @@
-//! The lines of a text.
+//! The lines of a text, and which of them say something.
 
-ghost use Rattle.std.specs.Prelude.{◌≡◌, ◌==◌, ◌<◌, ◌≤◌, length};
-ghost use Rattle.std.specs.List.{before_first, after_first, position_or_len, list_all};
+ghost use Rattle.std.specs.Prelude.{◌≡◌, ◌==◌, ◌||◌, ◌<◌, ◌≤◌, length, nat_lt};
+ghost use Rattle.std.specs.List.{before_first, after_first, position_or_len, list_all, list_any};
 ghost use Rattle.plan_model.specs.Text.{without_return, is_skipped};
+ghost use Rattle.plan_words.specs.Drafts.{IsText};
 
 // How many bytes stand before the first line feed, or in all.
 fn line_len(text: &[u8]) -> usize
@@ -64,4 +65,23 @@ pub(crate) fn is_skipped(line: &[u8]) -> bool
     ensures { result ≡ is_skipped line.now }
 {
     line.starts_with(b"#") || is_spaces(line)
+}
+
+fn has_control(line: &[u8]) -> bool
+    ensures { result ≡ list_any (λ b. nat_lt b 32 || b == 127) line.now }
+{
+    line.iter().any(|byte| *byte < 32 || *byte == 127)
+}
+
+/// A line as text, if it is some without control bytes.
+pub(crate) fn read_text(line: &[u8]) -> Option<&str>
+    ensures { IsText line.now result }
+{
+    if has_control(line) {
+        return None;
+    }
+    match str::from_utf8(line) {
+        Ok(text) => Some(text),
+        Err(_) => None,
+    }
 }

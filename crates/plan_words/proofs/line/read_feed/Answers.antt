@@ -1,4 +1,4 @@
-use Rattle.std.proofs.Common.{◌≡◌, sym, ◌∙◌, ap, true, false}
+use Rattle.std.proofs.Common.{◌≡◌, ◌∙◌, ap, true, false}
 use Rattle.plan_model.specs.PlanLine.{word, is_number, id_limit, from_of, limit_of, feed_of}
 use Rattle.plan_words.specs.Read.{own_refusal, form_refusal, form_of, port_refusal, limit_refusal}
 use Rattle.plan_words.proofs.ByKind.{handed_on, form_refused, id_refused, port_refused, limit_refused, feed_taken, feed_is}
@@ -30,6 +30,7 @@ pub returns : goal.returns
 returns c =
     let words = c.args.words.now in
     let id : is_number id_limit (word 1 c.args.words.now) ≡ true = rw c.get.ensures at c.in-Some.ensures.value.0 in
-    let n = c.in-Some.ensures.value.1 ∙ ap (λ t. Rattle.plan_model.specs.PlanLine.number t) c.get.ensures in
-    (feed_taken words c.requires c.in_ok-form.ensures.0 id c.in_ok-from.ensures.0 c.in_ok-limit.ensures.0,
-     feed_is words c.in-Some.id c.in_ok-doc.doc c.in_ok-from.from c.in_ok-limit.limit n (c.in_ok-doc.ensures ∙ c.as_bytes.ensures.value ∙ c.get-2.ensures) c.in_ok-from.ensures.1 c.in_ok-limit.ensures.1)
+    let n = c.in-Some.ensures.value.1 ∙ ap (λ t. Rattle.plan_model.specs.PlanLine.number t) c.get.ensures in (
+      feed_taken words c.requires c.in_ok-form.ensures.0 id c.in_ok-from.ensures.0 c.in_ok-limit.ensures.0,
+      feed_is words c.in-Some.id c.in_ok-doc.doc c.in_ok-from.from c.in_ok-limit.limit n (c.in_ok-doc.ensures ∙ c.as_bytes.ensures.value ∙ c.get-2.ensures) c.in_ok-from.ensures.1 c.in_ok-limit.ensures.1,
+    )

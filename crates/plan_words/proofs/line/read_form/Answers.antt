@@ -1,7 +1,6 @@
 use Rattle.std.proofs.Common.{◌≡◌, true, false, length, nat_lt, nat_eq, sym, ◌∙◌, arith}
-use Rattle.std.specs.Prelude.{codes}
 use Rattle.std.proofs.lemmas.Bool.{lt-ltb, le-ltb}
-use Rattle.plan_model.specs.PlanLine.{has_word, is_file, is_tcp}
+use Rattle.plan_model.specs.PlanLine.{is_file, is_tcp}
 use Rattle.plan_words.specs.Read.{count_refusal, form_refusal, form_of}
 use Rattle.plan_words.proofs.ByKind.{feed_short, feed_undocumented, feed_from_nowhere, feed_from_file, feed_from_outlet, file_form, tcp_form, handed_on, same_why}
 use Rattle.plan_words.proofs.line.read_form.Goals as goal

@@ -1,4 +1,4 @@
-use Rattle.std.proofs.Common.{◌≡◌, ◌≤◌, length, sym, ◌∙◌, arith}
+use Rattle.std.proofs.Common.{sym, ◌∙◌, arith}
 use Rattle.plan_words.proofs.ByKind.{limited_len}
 use Rattle.plan_words.proofs.line.read_limit.Goals as goal
 

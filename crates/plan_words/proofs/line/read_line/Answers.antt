@@ -1,5 +1,5 @@
-use Rattle.std.proofs.Common.{◌≡◌, true, false, sym, ◌∙◌}
-use Rattle.plan_model.specs.PlanLine.{word, number, is_ring, is_batch, is_mode, is_feed, ring_limit, batch_limit}
+use Rattle.std.proofs.Common.{◌≡◌, true, sym, ◌∙◌}
+use Rattle.plan_model.specs.PlanLine.{word, number, is_ring, is_batch, is_mode, ring_limit, batch_limit}
 use Rattle.plan_model.specs.Plan.{mode_of}
 use Rattle.plan_words.specs.Read.{own_refusal, setting_refusal, mode_refusal, line_of}
 use Rattle.plan_words.proofs.ByKind.{ring_line, batch_line, mode_line, no_line, handed_on, same_why, ring_is, batch_is, mode_is}

@@ -1,4 +1,4 @@
-use Rattle.std.proofs.Common.{◌≡◌, ◌+◌, ◌<◌, ◌≤◌, [], length, sym, ◌∙◌, arith, nat_eq, true}
+use Rattle.std.proofs.Common.{◌+◌, [], length, ◌∙◌, arith}
 use Rattle.plan_words.specs.Drafts.{drafted, draft_of, stepped}
 use Rattle.plan_words.proofs.LineByLine.{goes_on, stops, ends}
 use Rattle.plan_words.proofs.Answered.{draft_handed_on}
@@ -9,7 +9,7 @@ pub returns-in_err-take_step : goal.returns-in_err-take_step
 returns-in_err-take_step c =
     let out = c.args.out.now in
     draft_handed_on c.from_residual.result c.in_err-take_step.field-0.0 (stepped out c.loop-rest.draft (c.loop-rest.number + 1) c.first_line.result.0.now) (drafted out (draft_of []) (Rattle.plan_model.specs.Text.said_lines c.args.text.now)) c.from_residual.ensures.1
-      (λ r e. c.loop-rest.invariant.same ∙ stops out c.loop-rest.rest.now c.first_line.result.0.now c.first_line.result.1.now c.loop-rest.draft (c.loop-rest.number + 1) r c.first_line.ensures.line c.first_line.ensures.behind e) c.in_err-take_step.ensures
+    (λ r e. c.loop-rest.invariant.same ∙ stops out c.loop-rest.rest.now c.first_line.result.0.now c.first_line.result.1.now c.loop-rest.draft (c.loop-rest.number + 1) r c.first_line.ensures.line c.first_line.ensures.behind e) c.in_err-take_step.ensures
 
 pub loop-rest-preserved : goal.loop-rest-preserved
 loop-rest-preserved c = record {

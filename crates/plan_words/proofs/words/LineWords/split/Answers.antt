@@ -1,9 +1,8 @@
-use Rattle.std.proofs.Common.{rules, ◌≡◌, ◌++◌, ◌∷◌, [], ◌<◌, ℕ, List, Some, None, map, sym, ap, ◌∙◌, arith, refl, length, lit<}
+use Rattle.std.proofs.Common.{rules, ◌≡◌, ◌++◌, ◌∷◌, [], ◌<◌, ℕ, List, Some, None, map, ap, ◌∙◌, length, lit<}
 use denote.Ref.{Bor}
 use Rattle.std.proofs.lemmas.Str.Pattern.{split_once_first}
 use Rattle.std.proofs.lemmas.List.{map-append}
-use Rattle.plan_model.specs.Text.{Words, words_in}
-use Rattle.plan_words.proofs.Cuts.{some_word, more_words, last_word, word_pushed, word_left_out, ends_pushed, ends_left_out, is_some, is_none}
+use Rattle.plan_words.proofs.Cuts.{more_words, last_word, word_pushed, word_left_out, ends_pushed, ends_left_out, is_some, is_none}
 use Rattle.plan_words.proofs.words.LineWords.split.Goals as goal
 use Rattle.plan_words.proofs.words.LineWords.split.Goals.{then-not-is_empty-2+in_ok-push-2, else-not-is_empty-2}
 
@@ -17,7 +16,7 @@ loop-word-preserved-in_ok-push c =
     record {
       utf8 = search rules;
       same = word_pushed c.args.line.now c.loop-word.rest.now c.in-Some.word.now c.in-Some.behind.now (map (λ w. w.now) c.loop-word.words.items) (map (λ w. w.now) c.push.new.self.items)
-        c.loop-word.invariant.same (more_words c.loop-word.rest.now c.in-Some.word.now c.in-Some.behind.now cut.0 cut.1 cut.2) some (now_more c.loop-word.words.items c.push.new.self.items c.in-Some.word c.in_ok-push.ensures.items);
+          c.loop-word.invariant.same (more_words c.loop-word.rest.now c.in-Some.word.now c.in-Some.behind.now cut.0 cut.1 cut.2) some (now_more c.loop-word.words.items c.push.new.self.items c.in-Some.word c.in_ok-push.ensures.items);
     }
 
 pub loop-word-preserved : goal.loop-word-preserved
@@ -27,7 +26,7 @@ loop-word-preserved c =
     record {
       utf8 = search rules;
       same = word_left_out c.args.line.now c.loop-word.rest.now c.in-Some.word.now c.in-Some.behind.now (map (λ w. w.now) c.loop-word.words.items)
-        c.loop-word.invariant.same (more_words c.loop-word.rest.now c.in-Some.word.now c.in-Some.behind.now cut.0 cut.1 cut.2) none;
+          c.loop-word.invariant.same (more_words c.loop-word.rest.now c.in-Some.word.now c.in-Some.behind.now cut.0 cut.1 cut.2) none;
     }
 
 pub returns : goal.returns
@@ -36,10 +35,10 @@ returns c =
     let last = last_word c.loop-word.rest.now whole in
     elim c.if-not-is_empty-2.branch [
       | then-not-is_empty-2+in_ok-push-2 w ↦
-        let items = ap (λ v. v.items) w.words-is ∙ w.in_ok-push-2.ensures.items in
-        ends_pushed c.args.line.now c.loop-word.rest.now (map (λ w. w.now) c.loop-word.words.items) (map (λ w. w.now) c.if-not-is_empty-2.words.items) c.loop-word.invariant.same last
+          let items = ap (λ v. v.items) w.words-is ∙ w.in_ok-push-2.ensures.items in
+          ends_pushed c.args.line.now c.loop-word.rest.now (map (λ w. w.now) c.loop-word.words.items) (map (λ w. w.now) c.if-not-is_empty-2.words.items) c.loop-word.invariant.same last
           (is_some (length c.loop-word.rest.now) c.is_empty-2.result c.is_empty-2.ensures w.if-not-is_empty-2.true) (now_more c.loop-word.words.items c.if-not-is_empty-2.words.items c.loop-word.rest items)
       | else-not-is_empty-2 w ↦
-        ap (λ v. map (λ w. w.now) v.items) w.words-is ∙ ends_left_out c.args.line.now c.loop-word.rest.now (map (λ w. w.now) c.loop-word.words.items) c.loop-word.invariant.same last
+          ap (λ v. map (λ w. w.now) v.items) w.words-is ∙ ends_left_out c.args.line.now c.loop-word.rest.now (map (λ w. w.now) c.loop-word.words.items) c.loop-word.invariant.same last
           (is_none (length c.loop-word.rest.now) c.is_empty-2.result c.is_empty-2.ensures w.if-not-is_empty-2.false)
     ]

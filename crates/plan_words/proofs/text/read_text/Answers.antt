@@ -1,6 +1,6 @@
 use Rattle.std.proofs.Common.{sym, ◌∙◌}
 use Rattle.plan_words.proofs.Texts.{control_byte, text_line, no_text}
-use Rattle.plan_words.proofs.draft.read_text.Goals as goal
+use Rattle.plan_words.proofs.text.read_text.Goals as goal
 
 pub returns-then-has_control : goal.returns-then-has_control
 returns-then-has_control c = control_byte c.args.line.now (sym c.has_control.ensures ∙ c.if-has_control.true)
