@@ -15,11 +15,9 @@ mod content;
 mod fault;
 mod fields;
 mod place;
-mod reason;
 mod samples;
 
 pub use place::{Step, read_chunk};
-pub use reason::why_number;
 pub use xdf_model::Why;
 
 #[cfg(test)]

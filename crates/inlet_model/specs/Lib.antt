@@ -1,2 +1,1 @@
 pub mod Inlet
-pub mod Fed

@@ -1,3 +1,4 @@
 pub mod Outlook
 pub mod Rules
 pub mod Reading
+pub mod Read

@@ -1,5 +1,5 @@
 -- What a reader of a source will still answer, for whatever bytes follow those that it took. This project's own.
-use Rattle.std.specs.Prelude.{◌≡◌, ℕ, Bool, false, List, [], ◌∷◌, ◌++◌, ◌⊎◌, Option, IfSome, IsTrue}
+use Rattle.std.specs.Prelude.{◌≡◌, ℕ, Bool, false, List, [], ◌∷◌, ◌++◌, ◌⊎◌, Option, IsTrue}
 use Rattle.std.specs.Io.KnownBytes.{Consumes, IsAtEnd}
 
 -- how the input goes on behind some bytes: it ends, a read fails, or there are more bytes than count
@@ -58,8 +58,3 @@ pub record Answered {I E : Type 0} (kind : E → Kind) (old new : Outlook I E) (
   pub taken : List ℕ
   pub lost : Consumes before left taken
   pub gives : Gives kind old taken new left got
-
--- all items of a reader and its end: those of all that was left, unless a read failed; then those of the bytes taken
-pub record IsCollected {I E : Type 0} (kind : E → Kind) (old : Outlook I E) (before left : Option (List ℕ)) (items : List I) (e : E) : Type 0 where
-  pub whole : (kind e ≡ at_fault → ⊥) → IfSome before (λ b. old.coming b ended ≡ (items, e))
-  pub fault : kind e ≡ at_fault → (taken : List ℕ) × Consumes before left taken × (old.coming taken failed ≡ (items, e))

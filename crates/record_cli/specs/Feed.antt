@@ -6,11 +6,10 @@ use Rattle.xdf_model.specs.declared.types.Format.TheVariants.{Int16}
 use Rattle.xdf_model.specs.Sample.{Sample}
 use Rattle.rec_base.specs.declared.name.Name.{Name}
 use Rattle.rec_base.specs.Contents.{Contents, IsOpened}
-use Rattle.reading_model.specs.Outlook.{How, failed, All}
+use Rattle.reading_model.specs.Outlook.{How, All}
+use Rattle.reading_model.specs.Read.{Reader, IsRead, IsReadingOf}
 use Rattle.inlet_model.specs.declared.end.FeedEnd.{FeedEnd}
-use Rattle.inlet_model.specs.declared.end.FeedEnd.TheVariants.{ReadFault}
-use Rattle.inlet_model.specs.Inlet.{feed_counted, feed_within}
-use Rattle.inlet_model.specs.Fed.{Feed, IsFed}
+use Rattle.inlet_model.specs.Inlet.{feed_counted, feed_within, feed_kind}
 
 -- the header document of one int16 channel
 abbrev pub int16_document : List ℕ
@@ -28,28 +27,23 @@ abbrev pub byte_limit : ℕ
 byte_limit = 1_099_511_627_776
 
 -- the samples of some bytes of such a feed and its end, where the input goes on so behind them; any uid will do
-abbrev pub int16_feed : Feed
+abbrev pub int16_feed : Reader Sample FeedEnd
 int16_feed b how = feed_counted None int16_shape None byte_limit b how
 
 -- the samples of all bytes of such a feed, and its end
 abbrev pub int16_within : List ℕ → All Sample FeedEnd
 int16_within b = feed_within None int16_shape None byte_limit b
 
--- the samples are those of the whole feed; where a read failed, those of the bytes before it
-pub record IsFedOf (text : List ℕ) (samples : List Sample) (end : FeedEnd) : Type 0 where
-  pub whole : (end ≡ ReadFault → ⊥) → int16_within text ≡ (samples, end)
-  pub cut : end ≡ ReadFault → (taken : List ℕ) × (rest : List ℕ) × (text ≡ taken ++ rest) × (int16_feed taken failed ≡ (samples, end))
-
 -- where contents are told, the first text at the name gave these samples and this end
 abbrev pub IsTold : Option Contents → Name → List Sample → FeedEnd → Type 0
-IsTold contents name samples end = (texts : Contents) → contents ≡ Some texts → (text : List ℕ) × (slice_get (texts name) 0 ≡ Some text) × IsFedOf text samples end
+IsTold contents name samples end = (texts : Contents) → contents ≡ Some texts → (text : List ℕ) × (slice_get (texts name) 0 ≡ Some text) × IsReadingOf feed_kind int16_feed text samples end
 
 -- a source was opened at the name, and gave these samples and this end
 pub record IsFeedAt {S M : Type 0} (left_of : S → Option (List ℕ)) (faults_of : S → ℕ) (mark_of : S → M) (contents : Option Contents) (name : Name) (samples : List Sample) (end : FeedEnd) : Type 0 where
   pub first : S
   pub last : S
   pub opened : IsOpened contents name 0 (left_of first)
-  pub fed : IsFed left_of faults_of mark_of int16_feed first last samples end
+  pub fed : IsRead left_of faults_of mark_of feed_kind int16_feed first last samples end
   pub told : IsTold contents name samples end
 
 -- the bytes that were taken have more samples than this stage records, whatever follows

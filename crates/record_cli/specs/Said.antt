@@ -3,7 +3,7 @@ use Rattle.std.specs.Prelude.{ℕ, ◌⊎◌, List, Option}
 use Rattle.std.specs.Io.KnownBytes.{Appends}
 use Rattle.rec_base.specs.Causes.{Rose}
 use Rattle.rec_base.specs.Known.{AppendsFront, printed_line}
-use Rattle.report_model.specs.Placed.{printed_lines}
+use Rattle.report_model.specs.Shown.{printed_lines}
 
 -- the line of a fault was said, in full unless a line failed
 pub record SaysFault (printed printed' : Option (List ℕ)) (before now : ℕ) (line : List ℕ) : Type 0 where

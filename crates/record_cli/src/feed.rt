@@ -4,7 +4,8 @@ ghost use Rattle.std.specs.Prelude.{◌≡◌, ◌⊎◌, ◌≤◌, IfOk, IsErr
 ghost use Rattle.std.specs.List.{AllByRecursion};
 ghost use Rattle.std.specs.Io.KnownBytes.{Consumes};
 ghost use Rattle.xdf_model.specs.Sample.{FitsShape};
-ghost use Rattle.inlet_model.specs.Fed.{IsFed};
+ghost use Rattle.reading_model.specs.Read.{IsRead};
+ghost use Rattle.inlet_model.specs.Inlet.{feed_kind};
 ghost use Rattle.record_cli.specs.Feed.{int16_shape, int16_feed, most_samples, HasMore};
 
 use crate::fault::RecordFault;
@@ -36,7 +37,7 @@ pub(crate) struct ReadFeed {
 /// Reads a feed of one int16 channel up to its end, whatever that is. A 513th sample is
 /// `OtherForm`.
 pub(crate) fn read_feed<S: Source + Drop>(alloc: Global, source: S) -> Result<ReadFeed, RecordFault>
-    ensures fed { IfOk result (λ feed. (last : S) × IsFed S.left S.faults S.mark int16_feed source last feed.samples feed.end) }
+    ensures fed { IfOk result (λ feed. (last : S) × IsRead S.left S.faults S.mark feed_kind int16_feed source last feed.samples feed.end) }
     ensures fits { IfOk result (λ feed. AllByRecursion (FitsShape int16_shape) feed.samples) }
     ensures few { IfOk result (λ feed. length feed.samples ≤ most_samples) }
     ensures other { IsErrOf result RecordFault.OtherForm → (last : S) × (taken : List ℕ) × Consumes (S.left source) (S.left last) taken × HasMore taken }

@@ -7,7 +7,7 @@ use Rattle.chunk_grammar.specs.declared.chunk.Chunk.{Chunk}
 use Rattle.chunk_grammar.specs.declared.chunk.Chunk.TheVariants.{FileHeader, StreamHeader, Samples, ClockOffset, Boundary, StreamFooter, Other}
 use Rattle.chunk_grammar.specs.Chunk.{Context}
 use Rattle.report_model.specs.Lines.{chunk_lines}
-use Rattle.report_model.specs.Placed.{printed_lines}
+use Rattle.report_model.specs.Shown.{printed_lines}
 use Rattle.stream_report.specs.Parts.{first_line, later_lines}
 use Rattle.stream_report.proofs.Said.{front_behind, front_longer}
 

@@ -9,7 +9,7 @@ use Rattle.std.proofs.lemmas.Grind.{flat_map-append}
 use Rattle.std.specs.Io.KnownBytes.{Appends}
 use Rattle.rec_base.specs.Causes.{Rose}
 use Rattle.rec_base.specs.Known.{AppendsFront, printed_line}
-use Rattle.report_model.specs.Placed.{printed_lines}
+use Rattle.report_model.specs.Shown.{printed_lines}
 use Rattle.stream_report.proofs.Items.{take_next}
 
 -- all of one text, and a front of the next

@@ -13,11 +13,15 @@
 
 mod chunk;
 mod fault;
+mod file;
 mod line;
+mod reason;
 mod say;
 mod words;
 
 pub use fault::SayFault;
+pub use file::{ShowEnd, show_file};
+pub use reason::why_number;
 pub use say::say_chunk;
 
 #[cfg(test)]

@@ -5,7 +5,7 @@ ghost use Rattle.std.specs.Io.KnownBytes.{Appends};
 ghost use Rattle.rec_base.specs.Causes.{Rose};
 ghost use Rattle.rec_base.specs.Known.{AppendsFront, printed_line};
 ghost use Rattle.report_model.specs.Lines.{chunk_lines, sample_line};
-ghost use Rattle.report_model.specs.Placed.{printed_lines};
+ghost use Rattle.report_model.specs.Shown.{printed_lines};
 ghost use Rattle.stream_report.specs.Parts.{later_lines};
 
 use crate::chunk::chunk_line;
@@ -16,8 +16,8 @@ use rec_base::{Failed, Lines};
 use sample_values::{Format, SampleView};
 use std::alloc::Global;
 
-// Says one line.
-fn say_line<L: Lines>(lines: &mut L, line: &str) -> Result<(), SayFault>
+/// Says one line.
+pub(crate) fn say_line<L: Lines>(lines: &mut L, line: &str) -> Result<(), SayFault>
     ensures said { OnOk result (Appends (L.printed lines.old) (L.printed lines.new) (printed_line line.now)) }
     ensures print { OnErr result (AppendsFront (L.printed lines.old) (L.printed lines.new) (printed_line line.now)
         × Rose (L.print_faults lines.old) (L.print_faults lines.new)) }

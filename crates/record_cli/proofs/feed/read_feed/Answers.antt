@@ -1,21 +1,23 @@
 use Rattle.std.proofs.Common.{refl, ap, ◌∙◌, subst, arith, ◌≡◌, [], ◌∷◌, length}
 use Rattle.std.proofs.lemmas.List.{length-append}
 use Rattle.xdf_model.specs.declared.types.Shape.{Shape}
-use Rattle.xdf_model.specs.Sample.{FitsShape}
+use Rattle.xdf_model.specs.Sample.{Sample, FitsShape}
 use Rattle.feed_samples.specs.Inlet.{outlook}
 use Rattle.feed_samples.specs.declared.step.FeedStep.TheVariants as step
 use Rattle.record_cli.specs.Feed.{int16_feed}
-use Rattle.record_cli.proofs.Feeds.{begun_none, begun_by, fed_by, long_by}
+use Rattle.inlet_model.specs.Inlet.{feed_kind}
+use Rattle.piece_reader.specs.Steps.{Begun}
+use Rattle.piece_reader.proofs.Collecting.{begun_item}
+use Rattle.piece_reader.proofs.Ending.{fresh, begun_fresh, ends_so}
+use Rattle.record_cli.proofs.Feeds.{long_by, fault_alone}
 use Rattle.record_cli.proofs.Samples.{fits_more}
 use Rattle.record_cli.proofs.feed.read_feed.Goals as goal
 
 pub loop-init : goal.loop-init
 loop-init g c =
-    let fresh = c.in_ok-reader.ensures.fresh in
     rw c.new-samples.ensures rw c.in_ok-reader.ensures.source record {
-      begun = begun_none int16_feed (outlook c.in_ok-reader.reader.inlet) _ c.in_ok-reader.ensures.all;
-      going = fresh.0;
-      shape = fresh.2;
+      begun = begun_fresh int16_feed (outlook c.in_ok-reader.reader.inlet) _ c.in_ok-reader.ensures.all c.in_ok-reader.ensures.fresh.0;
+      shape = c.in_ok-reader.ensures.fresh.2;
       marked = refl;
       later = omega arith;
       fits = tt;
@@ -25,7 +27,7 @@ loop-init g c =
 pub returns-in-End-clause-fed : goal.returns-in-End-clause-fed
 returns-in-End-clause-fed g c =
     let i = c.loop.invariant in
-    let k = fed_by int16_feed (outlook c.loop.reader.inlet) (outlook c.next.new.self.inlet) _ _ _ c.loop.samples c.in-End.end i.begun i.going c.in-End.ensures.answer in (
+    let k = ends_so feed_kind int16_feed (outlook c.loop.reader.inlet) (outlook c.next.new.self.inlet) _ _ _ c.loop.samples c.in-End.end i.begun c.in-End.ensures.answer in (
       c.next.new.self.source,
       record {
         marked = c.in-End.ensures.marked ∙ i.marked;
@@ -33,7 +35,7 @@ returns-in-End-clause-fed g c =
         taken = k.0;
         lost = k.1;
         ends = k.2;
-        cause = λ e. omega (arith, c.in-End.ensures.cause i.going (ap step.End e), i.later);
+        cause = λ e. omega (arith, c.in-End.ensures.cause i.begun.goes (ap step.End (fault_alone c.in-End.end e)), i.later);
       },
     )
 
@@ -48,9 +50,9 @@ loop-preserved g c =
     let i = c.loop.invariant in
     let s = c.in-Sample.sample in
     let P : Shape → Type 0 = λ shape. FitsShape shape s in
+    let B : List Sample → Type 0 = λ l. Begun (fresh int16_feed) (outlook c.next.new.self.inlet) _ _ l in
     record {
-      begun = begun_by int16_feed (outlook c.loop.reader.inlet) (outlook c.next.new.self.inlet) _ _ _ c.loop.samples c.push.new.self s i.begun c.in-Sample.ensures.answer c.in_ok-push-in-Sample.ensures.ok;
-      going = c.in-Sample.ensures.answer.gives.0;
+      begun = subst B (sym c.in_ok-push-in-Sample.ensures.ok) (begun_item feed_kind (fresh int16_feed) (outlook c.loop.reader.inlet) (outlook c.next.new.self.inlet) _ _ _ c.loop.samples s i.begun c.in-Sample.ensures.answer);
       shape = c.in-Sample.ensures.same_shape.0 ∙ i.shape;
       marked = c.in-Sample.ensures.marked ∙ i.marked;
       later = omega (arith, c.in-Sample.ensures.later, i.later);

@@ -1,7 +1,7 @@
 use Rattle.std.proofs.Common.{◌≡◌, ◌≤◌, take, map}
 use Rattle.std.specs.Io.KnownBytes.{Appends}
 use Rattle.report_model.specs.Lines.{sample_line}
-use Rattle.report_model.specs.Placed.{printed_lines}
+use Rattle.report_model.specs.Shown.{printed_lines}
 use Rattle.stream_report.proofs.say.say_samples.Given as goal
 
 abbrev pub invariant-loop-i : goal.invariant-loop-i

@@ -1,7 +1,7 @@
 //! The numbers of the reasons.
 
 ghost use Rattle.std.specs.Prelude.{◌≡◌};
-ghost use Rattle.chunk_decoder.specs.Reasons.{reason_number};
+ghost use Rattle.report_model.specs.Reasons.{reason_number};
 
 use xdf_model::Why;
 
