@@ -1,0 +1,4 @@
+pub mod Steady
+pub mod Outlooks
+pub mod Passed
+pub mod Openings

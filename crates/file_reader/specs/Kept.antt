@@ -1,0 +1,44 @@
+-- What a reader of a file keeps, and what a step does to it.
+use Rattle.std.specs.Prelude.{◌≡◌, ℕ, List, [], take, Option, Some, None, ⊤}
+use Rattle.reading_model.specs.Outlook.{Got, item, end, nothing}
+use Rattle.reading_model.specs.Reading.{Reading, going, done}
+use Rattle.reading_model.specs.Rules.{short}
+use Rattle.piece_reader.specs.Steps.{Passes, EndsAs, Wants}
+use Rattle.file_model.specs.declared.end.FileEnd.{FileEnd}
+use Rattle.file_model.specs.Reader.{FileState, ChunkAt, file_rules}
+use Rattle.file_reader.specs.declared.kept.Inner.{Inner}
+use Rattle.file_reader.specs.declared.kept.Inner.TheVariants.{Answer, Want}
+use Rattle.file_reader.specs.FileInlet.{FileInlet, IsGiven, got}
+
+-- where it stands, once the end was answered or not
+abbrev pub reading_of : Option FileEnd → FileState → List ℕ → ℕ → Reading FileState FileEnd
+reading_of (Some e) state bytes room = done e
+reading_of None state bytes room = going state bytes room
+
+-- how far it is now
+abbrev pub with_reading : FileInlet → Reading FileState FileEnd → FileInlet
+with_reading x reading = record { context = x.context; place = x.place; last = x.last; reading = reading; byte_limit = x.byte_limit }
+
+-- the last chunk's bytes were gone past
+abbrev pub without_last : FileInlet → FileInlet
+without_last x = record { context = x.context; place = x.place; last = []; reading = x.reading; byte_limit = x.byte_limit }
+
+abbrev pub IsGoing : Reading FileState FileEnd → Type 0
+IsGoing (done e) = ⊥
+IsGoing (going s rest room) = ⊤
+
+-- what stands in the bytes that count is short
+abbrev pub IsShort : Reading FileState FileEnd → Type 0
+IsShort (done e) = ⊥
+IsShort (going s rest room) = file_rules.at s (take room rest) ≡ short
+
+-- what an answer of the bytes that were taken takes from what is still to come
+abbrev pub TakesGot : Reading FileState FileEnd → Reading FileState FileEnd → Got ChunkAt FileEnd → Type 0
+TakesGot old new (item c) = Passes file_rules old (Some c) new
+TakesGot old new (end e) = EndsAs file_rules old e × (new ≡ done e)
+TakesGot old new nothing = new ≡ old
+
+-- what was answered of the bytes that were taken, or that more are wanted
+abbrev pub Does : FileInlet → FileInlet → Inner → Type 0
+Does old new (Answer next) = TakesGot old.reading new.reading (got next) × IsGiven old new next × (new.byte_limit ≡ old.byte_limit)
+Does old new Want = Wants file_rules old.reading × (new ≡ old)

@@ -1,0 +1,2 @@
+pub mod FileInlet
+pub mod Kept

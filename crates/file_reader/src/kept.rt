@@ -1,0 +1,251 @@
+//! What a reader of a file keeps between two reads.
+
+ghost use Rattle.std.specs.Prelude.{◌≡◌, ◌≤◌, ◌<◌, ◌+◌, ◌-◌, ◌^◌, ℕ, List, [], length, take, IsTrue, false, IfOk, OnErr, IsErrOf};
+ghost use Rattle.std.specs.Io.KnownBytes.{IsAtEnd, Keeps, Consumes};
+ghost use Rattle.rec_base.specs.Causes.{Rose};
+ghost use Rattle.reading_model.specs.Outlook.{ended};
+ghost use Rattle.reading_model.specs.Reading.{going, done};
+ghost use Rattle.piece_reader.specs.Held.{HeldBytes};
+ghost use Rattle.piece_reader.specs.Steps.{EndsAs, Wants, end_of, gained};
+ghost use Rattle.chunk_grammar.specs.Chunk.{context_after};
+ghost use Rattle.file_model.specs.Reader.{behind_magic, end_reading, file_rules};
+ghost use Rattle.file_reader.specs.FileInlet.{FileInlet, StandsAt, end_in};
+ghost use Rattle.file_reader.specs.Kept.{Does, IsGoing, IsShort, with_reading, without_last};
+
+use crate::missing::missing;
+use chunk_decoder::{Step, read_chunk};
+use chunk_grammar::{Chunk, Context};
+use file_model::{FileEnd, Next};
+use piece_reader::{Held, PieceFault};
+use rec_base::Source;
+use std::alloc::Global;
+use std::marker::Model;
+
+/// How many bytes are held, where no chunk needs more: so small chunks don't cost a read each.
+pub(crate) const PIECE: usize = 65_536;
+
+/// What the bytes that were taken say.
+#[derive(Debug, Drop)]
+pub(crate) enum Inner {
+    /// This is the answer.
+    Answer(Next),
+    /// More bytes are wanted.
+    Want,
+}
+
+/// The bytes that were taken and not gone past, and where they stand in the file.
+#[derive(Drop)]
+pub struct KeptFile {
+    alloc: Global,
+    held: Held,
+    // how many of the bytes that are held are the last chunk's
+    last: usize,
+    context: Context,
+    // the place behind the last chunk
+    place: usize,
+    byte_limit: usize,
+    ending: Option<FileEnd>,
+}
+
+impl Model for KeptFile {
+    ghost use Rattle.std.specs.Prelude.{length, take, drop, ◌≤◌, ◌+◌, ◌-◌, ◌^◌};
+    ghost use Rattle.file_reader.specs.FileInlet.{FileInlet};
+    ghost use Rattle.file_reader.specs.Kept.{reading_of};
+
+    ghost Value = { FileInlet };
+
+    ghost view = { λ k. record {
+      context = k.context;
+      place = k.place;
+      last = take k.last k.held.bytes;
+      reading = reading_of k.ending (record { context = k.context; place = k.place }) (drop k.last k.held.bytes) (k.byte_limit - k.place);
+      byte_limit = k.byte_limit;
+    } };
+
+    ghost invariant = { λ k. (k.last ≤ length k.held.bytes) × (k.place ≤ k.byte_limit) × (k.byte_limit ≤ 2 ^ 40) × (k.place + length k.held.bytes ≤ k.byte_limit + 1 + k.last) };
+}
+
+// The bytes that count.
+fn counted(bytes: &[u8], room: usize) -> &[u8]
+    ensures { result.now ≡ take room bytes.now }
+{
+    &bytes[..room.min(bytes.len())]
+}
+
+// Whether there was memory for the context after the chunk, which fits the context.
+fn pass_chunk(context: &mut Context, chunk: &Chunk) -> bool
+    ensures ok { IsTrue result → context.new ≡ context_after context.old chunk.now }
+    ensures memory { result ≡ false → context.new ≡ context.old }
+{
+    match chunk {
+        Chunk::StreamHeader { id, doc } => context.context_add(*id, doc.bytes()).is_ok(),
+        _ => true,
+    }
+}
+
+// An end, as it is answered.
+pub(crate) fn next_of(end: FileEnd) -> Next
+    ensures { result ≡ end_reading end }
+{
+    match end {
+        FileEnd::End { at } => Next::End { at },
+        FileEnd::Torn { at, left } => Next::Torn { at, left },
+        FileEnd::Bad { at, why } => Next::Bad { at, why },
+        FileEnd::ReadFault => Next::ReadFault,
+        FileEnd::SizeLimit => Next::SizeLimit,
+    }
+}
+
+impl KeptFile {
+    /// Nothing was taken but the magic, which is held.
+    pub(crate) fn behind_magic(alloc: Global, magic: Held, byte_limit: usize) -> KeptFile
+        requires low { 4 ≤ byte_limit }
+        requires high { byte_limit ≤ 2 ^ 40 }
+        requires size { length magic.bytes ≡ 4 }
+        ensures { result ≡ record { context = []; place = 4; last = []; reading = going behind_magic [] (byte_limit - 4); byte_limit = byte_limit } }
+    {
+        let mut held = magic;
+        held.pass(4);
+        KeptFile {
+            alloc,
+            held,
+            last: 0,
+            context: Context::new(alloc),
+            place: 4,
+            byte_limit,
+            ending: None,
+        }
+    }
+
+    /// The last chunk's bytes, where the last answer was a chunk.
+    pub(crate) fn last(&self) -> &[u8]
+        ensures { result.now ≡ self.now.last }
+    {
+        &self.held.bytes()[..self.last]
+    }
+
+    /// The streams whose headers were given.
+    pub(crate) fn context(&self) -> &Context
+        ensures { result.now ≡ self.now.context }
+    {
+        &self.context
+    }
+
+    /// The end, once it was answered.
+    pub(crate) fn ended(&self) -> Option<FileEnd>
+        ensures end { result ≡ end_in self.now.reading }
+        ensures stands { StandsAt self.now self.now.reading }
+    {
+        self.ending
+    }
+
+    /// Goes past the last chunk's bytes.
+    pub(crate) fn forget(&mut self)
+        ensures { self.new ≡ without_last self.old }
+    {
+        self.held.pass(self.last);
+        self.last = 0;
+    }
+
+    // Ends the reading.
+    fn finish(&mut self, end: FileEnd) -> Next
+        ensures over { self.new ≡ with_reading self.old (done end) }
+        ensures value { result ≡ end_reading end }
+    {
+        self.ending = Some(end);
+        next_of(end)
+    }
+
+    // Ends the reading by the bytes that were taken.
+    fn stop(&mut self, end: FileEnd) -> Inner
+        requires ends { EndsAs file_rules self.old.reading end }
+        requires fresh { self.old.last ≡ [] }
+        ensures { Does self.old self.new result }
+    {
+        Inner::Answer(self.finish(end))
+    }
+
+    // Asks for more bytes, if more count.
+    fn ask(&mut self) -> Inner
+        requires short { IsShort self.old.reading }
+        requires fresh { self.old.last ≡ [] }
+        ensures { Does self.old self.new result }
+    {
+        if self.held.bytes().len() - self.last > self.byte_limit - self.place {
+            self.stop(FileEnd::SizeLimit)
+        } else {
+            Inner::Want
+        }
+    }
+
+    /// What the bytes that were taken say, if they say something.
+    pub(crate) fn step(&mut self) -> Inner
+        requires going { IsGoing self.old.reading }
+        requires fresh { self.old.last ≡ [] }
+        ensures { Does self.old self.new result }
+    {
+        let place = self.place;
+        let bytes = counted(&self.held.bytes()[self.last..], self.byte_limit - place);
+        match read_chunk(self.alloc, &self.context, bytes) {
+            Step::Whole { chunk, used } => {
+                if !pass_chunk(&mut self.context, &chunk) {
+                    return Inner::Answer(Next::Memory);
+                }
+                self.held.pass(self.last);
+                self.last = used;
+                self.place += used;
+                let at = place as u64;
+                Inner::Answer(Next::Chunk { at, chunk })
+            }
+            Step::Torn => self.ask(),
+            Step::Bad { at, why } => {
+                let at = (place + at) as u64;
+                self.stop(FileEnd::Bad { at, why })
+            }
+            Step::Memory => Inner::Answer(Next::Memory),
+        }
+    }
+
+    /// The end where no byte is left.
+    pub(crate) fn end_input(&mut self) -> Next
+        requires { IsGoing self.old.reading }
+        ensures value { result ≡ end_reading (end_of file_rules self.old.reading ended) }
+        ensures over { self.new ≡ with_reading self.old (done (end_of file_rules self.old.reading ended)) }
+    {
+        let at = self.place as u64;
+        let left = (self.held.bytes().len() - self.last) as u64;
+        if left == 0 {
+            self.finish(FileEnd::End { at })
+        } else {
+            self.finish(FileEnd::Torn { at, left })
+        }
+    }
+
+    /// The end where a read failed.
+    pub(crate) fn fail(&mut self) -> Next
+        ensures value { result ≡ Next.ReadFault }
+        ensures over { self.new ≡ with_reading self.old (done FileEnd.ReadFault) }
+    {
+        self.finish(FileEnd::ReadFault)
+    }
+
+    /// Takes one piece of the source: what is surely missing, or as much as a piece has room for, but
+    /// no more than one byte past those that count.
+    pub(crate) fn take_piece<S: Source>(&mut self, source: &mut S) -> Result<usize, PieceFault>
+        requires { Wants file_rules self.old.reading }
+        ensures gains { IfOk result (λ n. (bytes : List ℕ) × Consumes (S.left source.old) (S.left source.new) bytes × (length bytes ≡ n) × (self.new ≡ with_reading self.old (gained bytes self.old.reading))) }
+        ensures end { IfOk result (λ n. n ≡ 0 → IsAtEnd (S.left source.new)) }
+        ensures kept { OnErr result (self.new ≡ self.old) }
+        ensures left { OnErr result (Keeps (S.left source.old) (S.left source.new)) }
+        ensures failed { IsErrOf result PieceFault.Failed → Rose (S.faults source.old) (S.faults source.new) }
+        ensures memory { IsErrOf result PieceFault.Memory → source.new ≡ source.old }
+        ensures later { S.faults source.old ≤ S.faults source.new }
+        ensures marked { S.mark source.new ≡ S.mark source.old }
+    {
+        let rest = &self.held.bytes()[self.last..];
+        let room = self.byte_limit - self.place + 1 - rest.len();
+        let ahead = PIECE.saturating_sub(self.held.bytes().len());
+        let most = room.min(ahead.max(missing(rest)));
+        self.held.read(source, most)
+    }
+}

@@ -1,0 +1,16 @@
+//! The chunks of a file, from a source that gives its bytes in pieces of any size.
+//!
+//! The crate promises that its answers are the ones that `file_model` defines: each whole chunk with
+//! its place, and then the end that the bytes and the end of the input determine, whatever the
+//! pieces were. It holds the bytes of one chunk at a time, and a piece ahead; a chunk's length makes
+//! it take no memory before the chunk's bytes are there.
+#![tactic(auto)]
+
+mod fault;
+mod kept;
+mod missing;
+mod reader;
+
+pub use fault::FileFault;
+pub use file_model::{FileEnd, Next};
+pub use reader::FileReader;
