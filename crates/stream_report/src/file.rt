@@ -1,6 +1,6 @@
 //! Says what a whole file holds.
 
-ghost use Rattle.std.specs.Prelude.{◌≡◌, ◌≤◌, ◌⊎◌, ℕ, List, [], IsTrue, false, OnOk, OnErr, IsErrOf};
+ghost use Rattle.std.specs.Prelude.{◌≡◌, ◌≤◌, ◌⊎◌, ◌∷◌, ℕ, List, [], take, IsTrue, false, IfOk, OnOk, OnErr, IsErrOf, MatchOption, string_bytes};
 ghost use Rattle.std.specs.Io.KnownBytes.{Appends, Consumes};
 ghost use Rattle.rec_base.specs.Causes.{Rose};
 ghost use Rattle.rec_base.specs.Known.{AppendsFront};
@@ -8,14 +8,16 @@ ghost use Rattle.reading_model.specs.Read.{IsRead};
 ghost use Rattle.file_model.specs.declared.end.FileEnd.{FileEnd as FileEndValue};
 ghost use Rattle.file_model.specs.Reader.{ChunkAt, file_kind};
 ghost use Rattle.file_reader.specs.FileInlet.{outlook};
+ghost use Rattle.report_model.specs.Lines.{chunk_lines};
 ghost use Rattle.report_model.specs.Shown.{end_lines, show_lines, printed_lines, AreFirstLines};
 ghost use Rattle.stream_report.specs.Ends.{is_read, show_end};
 
 use crate::fault::SayFault;
 use crate::reason::why_number;
 use crate::say::{say_chunk, say_line};
+use chunk_grammar::{Chunk, Context};
 use file_reader::{FileEnd, FileReader, Next};
-use rec_base::{Lines, Source};
+use rec_base::{Lines, Memory, Source};
 use std::alloc::Global;
 
 /// How the showing of a file ended. This project's own.
@@ -37,6 +39,22 @@ pub enum ShowEnd {
     Memory,
 }
 
+// The last line, where there is one.
+fn end_line(alloc: Global, count: u64, end: FileEnd) -> Result<Option<String>, Memory>
+    ensures { IfOk result (λ line. MatchOption line (end_lines count end ≡ []) (λ words. end_lines count end ≡ string_bytes words ∷ [])) }
+{
+    let line = match end {
+        FileEnd::End { at } => format!(in alloc; "end {at} chunks {count}")?,
+        FileEnd::Torn { at, left } => format!(in alloc; "torn {at} left {left}")?,
+        FileEnd::Bad { at, why } => {
+            let number = why_number(why);
+            format!(in alloc; "bad {at} why {number}")?
+        }
+        FileEnd::ReadFault | FileEnd::SizeLimit => return Ok(None),
+    };
+    Ok(Some(line))
+}
+
 // Says the last line, where there is one.
 fn say_end<L: Lines>(
     alloc: Global,
@@ -52,16 +70,10 @@ fn say_end<L: Lines>(
     ensures later { L.print_faults lines.old ≤ L.print_faults lines.new }
     ensures rest { L.rest lines.new ≡ L.rest lines.old }
 {
-    let line = match end {
-        FileEnd::End { at } => format!(in alloc; "end {at} chunks {count}")?,
-        FileEnd::Torn { at, left } => format!(in alloc; "torn {at} left {left}")?,
-        FileEnd::Bad { at, why } => {
-            let number = why_number(why);
-            format!(in alloc; "bad {at} why {number}")?
-        }
-        FileEnd::ReadFault | FileEnd::SizeLimit => return Ok(()),
-    };
-    say_line(lines, line.as_str())
+    match end_line(alloc, count, end)? {
+        Some(line) => say_line(lines, line.as_str()),
+        None => Ok(()),
+    }
 }
 
 fn show_end(end: FileEnd) -> ShowEnd
@@ -92,6 +104,24 @@ fn finish<L: Lines>(alloc: Global, lines: &mut L, count: u64, end: FileEnd) -> S
     }
 }
 
+// Says the lines of a chunk, and lets it go.
+fn say_given<L: Lines>(
+    alloc: Global,
+    lines: &mut L,
+    ctx: &Context,
+    at: u64,
+    chunk: Chunk,
+) -> Result<(), SayFault>
+    ensures said { OnOk result (Appends (L.printed lines.old) (L.printed lines.new) (printed_lines (chunk_lines ctx.now at chunk))) }
+    ensures print { IsErrOf result SayFault.Print → AppendsFront (L.printed lines.old) (L.printed lines.new) (printed_lines (chunk_lines ctx.now at chunk))
+        × Rose (L.print_faults lines.old) (L.print_faults lines.new) }
+    ensures memory { IsErrOf result SayFault.Memory → (n : ℕ) × Appends (L.printed lines.old) (L.printed lines.new) (printed_lines (take n (chunk_lines ctx.now at chunk))) }
+    ensures later { L.print_faults lines.old ≤ L.print_faults lines.new }
+    ensures rest { L.rest lines.new ≡ L.rest lines.old }
+{
+    say_chunk(alloc, lines, ctx, at, &chunk)
+}
+
 /// Says what a file holds: the lines of each chunk, in order, and then a line that tells how the file
 /// ends. What the lines are is this project's own.
 ///
@@ -111,10 +141,14 @@ pub fn show_file<S: Source, L: Lines>(
     ensures shown { IsTrue (is_read result) → (chunks : List ChunkAt) × (end : FileEndValue) × (result ≡ show_end end)
         × IsRead S.left S.faults S.mark file_kind (outlook reader.old.file).coming reader.old.source reader.new.source chunks end
         × Appends (L.printed lines.old) (L.printed lines.new) (printed_lines (show_lines (chunks, end))) }
-    // a front of the first lines, whatever the file has behind the bytes that were taken
-    ensures print { result ≡ ShowEnd.PrintFault → (taken : List ℕ) × (said : List (List ℕ)) × Consumes (S.left reader.old.source) (S.left reader.new.source) taken
-        × AreFirstLines (outlook reader.old.file).coming taken said × AppendsFront (L.printed lines.old) (L.printed lines.new) (printed_lines said)
-        × Rose (L.print_faults lines.old) (L.print_faults lines.new) }
+    // a front of the first lines, whatever the file has behind the bytes that were taken; or a front of all lines
+    ensures print { result ≡ ShowEnd.PrintFault → Rose (L.print_faults lines.old) (L.print_faults lines.new)
+        × (((taken : List ℕ) × (said : List (List ℕ)) × Consumes (S.left reader.old.source) (S.left reader.new.source) taken
+        × AreFirstLines (outlook reader.old.file).coming taken said × AppendsFront (L.printed lines.old) (L.printed lines.new) (printed_lines said))
+        ⊎ ((chunks : List ChunkAt) × (end : FileEndValue)
+        × IsRead S.left S.faults S.mark file_kind (outlook reader.old.file).coming reader.old.source reader.new.source chunks end
+        × AppendsFront (L.printed lines.old) (L.printed lines.new) (printed_lines (show_lines (chunks, end))))) }
+    // some of the first lines, each whole
     ensures memory { result ≡ ShowEnd.Memory → (taken : List ℕ) × (said : List (List ℕ)) × Consumes (S.left reader.old.source) (S.left reader.new.source) taken
         × AreFirstLines (outlook reader.old.file).coming taken said × Appends (L.printed lines.old) (L.printed lines.new) (printed_lines said) }
     ensures later { L.print_faults lines.old ≤ L.print_faults lines.new }
@@ -124,7 +158,7 @@ pub fn show_file<S: Source, L: Lines>(
     'chunks: loop {
         match reader.next() {
             Next::Chunk { at, chunk } => {
-                match say_chunk(alloc, lines, reader.context(), at, &chunk) {
+                match say_given(alloc, lines, reader.context(), at, chunk) {
                     Ok(()) => count += 1,
                     Err(SayFault::Print) => return ShowEnd::PrintFault,
                     Err(SayFault::Memory) => return ShowEnd::Memory,
