@@ -1,6 +1,5 @@
 pub mod Loops
 pub mod Told
-pub mod Replies
 pub mod Fronts
 pub mod Passed
 pub mod Inlets

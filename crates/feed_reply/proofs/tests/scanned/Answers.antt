@@ -1,4 +1,4 @@
-use Rattle.std.proofs.Common.{[], take, length}
+use Rattle.std.proofs.Common.{[]}
 use Rattle.feed_reply.proofs.Scanned.{scan_one_more}
 use Rattle.feed_reply.proofs.tests.scanned.Goals as goal
 
