@@ -1,10 +1,10 @@
 //! What is known of the front of a sample that isn't whole yet.
 
-ghost use Rattle.std.specs.Prelude.{◌≡◌, ◌<◌, ◌≤◌, ◌+◌, ◌++◌, ℕ, List, IsTrue, IfSome, length, Err};
+ghost use Rattle.std.specs.Prelude.{◌≡◌, ◌<◌, ◌≤◌, ◌+◌, ◌++◌, ℕ, List, IsTrue, IfSome, None, length, Err};
 ghost use Rattle.feed_model.specs.declared.Order.{Order};
 ghost use Rattle.feed_model.specs.Feed.{text_limit};
 ghost use Rattle.feed_model.specs.FeedReading.{short, text_at, feed_sample_at};
-ghost use Rattle.feed_samples.specs.Scan.{IsTagSize, IsBehind, Knows};
+ghost use Rattle.feed_samples.specs.Scan.{is_cut, IsTagSize, IsBehind, Knows};
 ghost use Rattle.xdf_model.specs.declared.types.Shape.{Shape};
 
 use crate::fault::ReadFault;
@@ -18,12 +18,24 @@ use xdf_model::Shape;
 fn tag_size(bytes: &[u8]) -> Option<usize>
     ensures tag { IfSome result (λ n. (order : Order) → IsTagSize order bytes.now n) }
     ensures few { IfSome result (λ n. n ≤ 9) }
+    ensures other { result ≡ None → 0 < length bytes.now → (shape : Shape) (order : Order)
+        → feed_sample_at shape order bytes.now ≡ Err short → ⊥ }
 {
-    match bytes.first()? {
-        1 => Some(1),
-        2 => Some(9),
-        _ => None,
+    let tag = *bytes.first()?;
+    if tag == 1 {
+        Some(1)
+    } else if tag == 2 {
+        Some(9)
+    } else {
+        None
     }
+}
+
+// Whether the bytes end before a text does.
+fn is_cut(fault: &ReadFault) -> bool
+    ensures { result ≡ is_cut fault.now }
+{
+    matches!(fault, ReadFault::Short)
 }
 
 // Behind the tag and some texts of a sample.
@@ -43,6 +55,7 @@ impl Texts {
         requires room { self.now.room ≤ text_limit }
         requires short { text_at order self.now.room bytes.now ≡ Err short }
         ensures within { result ≤ 9 + self.now.room }
+        ensures more { length bytes.now < result }
         ensures short { (more : List ℕ) → length (bytes.now ++ more) < result
             → text_at order self.now.room (bytes.now ++ more) ≡ Err short }
     {
@@ -56,11 +69,13 @@ impl Texts {
         1 + width + ordered(order, width, rest) as usize
     }
 
-    // Goes past the texts that are whole. With fewer bytes than it answers the sample is short.
+    // Goes past the texts that are whole. With fewer bytes than it answers the sample is short, and
+    // where it is there are fewer.
     fn go_on(&mut self, shape: &Shape, order: Order, bytes: &[u8]) -> usize
         requires { IsBehind shape.now order bytes.now self.old }
         ensures want { (more : List ℕ) → length (bytes.now ++ more) < result
             → feed_sample_at shape.now order (bytes.now ++ more) ≡ Err short }
+        ensures fewer { feed_sample_at shape.now order bytes.now ≡ Err short → length bytes.now < result }
         ensures behind { IsBehind shape.now order bytes.now self.new }
     {
         let count = shape.count;
@@ -71,10 +86,12 @@ impl Texts {
                     self.gone += 1;
                     self.room -= text.len();
                 }
-                Err(ReadFault::Short) => {
-                    return self.at + self.needed(order, &bytes[self.at..]);
+                Err(fault) => {
+                    if is_cut(&fault) {
+                        return self.at + self.needed(order, &bytes[self.at..]);
+                    }
+                    return self.at;
                 }
-                Err(_) => return self.at,
             }
         }
         self.at
@@ -104,11 +121,12 @@ impl SampleScan {
         }
     }
 
-    /// Whether the sample is short. It isn't where a sample stands or a fault; who wants it asks
-    /// `read_feed_sample` then.
+    /// Whether the sample is short. It isn't where a sample stands or a fault; who wants those asks
+    /// `read_feed_sample` then, once.
     pub(crate) fn is_short(&mut self, shape: &Shape, order: Order, bytes: &[u8]) -> bool
         requires known { Knows shape.now order bytes.now self.old }
         ensures short { IsTrue result → feed_sample_at shape.now order bytes.now ≡ Err short }
+        ensures told { feed_sample_at shape.now order bytes.now ≡ Err short → IsTrue result }
         ensures knows { Knows shape.now order bytes.now self.new }
     {
         if bytes.len() < self.want {
