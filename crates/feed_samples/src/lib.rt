@@ -1,9 +1,14 @@
-//! What stands at the front of a feed's bytes: a sample, too few bytes, or the first fault with
-//! its place (LSL `streamfeed`, data protocol 1.10).
+//! The samples of a feed (LSL `streamfeed`, data protocol 1.10).
 //!
-//! The crate promises that its answer is the one that `feed_model` defines: a sample is whole
+//! `read_feed_sample` tells what stands at the front of some bytes: a sample, too few bytes, or the
+//! first fault with its place. Its answer is the one that `feed_model` defines: a sample is whole
 //! exactly where the bytes spell it, a sample that is cut is short, and of several faults the
 //! first from the left is told. No length makes it take memory before the text's bytes are there.
+//!
+//! `FeedReader` reads a whole feed from a source, in pieces of any size. It gives the samples behind the
+//! reply and two test samples, and then the end of the feed, as `inlet_model` defines them. Each
+//! byte is looked at a fixed number of times, for pieces of one byte too, and what was gone past
+//! isn't kept.
 #![tactic(auto)]
 
 mod fault;
@@ -22,6 +27,8 @@ pub use read::{SampleRead, read_feed_sample};
 pub use reader::FeedReader;
 pub use step::FeedStep;
 
+#[cfg(test)]
+mod reader_tests;
 #[cfg(test)]
 mod scan_tests;
 #[cfg(test)]
