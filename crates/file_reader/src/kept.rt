@@ -102,7 +102,7 @@ impl KeptFile {
         requires low { 4 ≤ byte_limit }
         requires high { byte_limit ≤ 2 ^ 40 }
         requires size { length magic.bytes ≡ 4 }
-        ensures { result ≡ record { context = []; place = 4; last = []; reading = going behind_magic [] (byte_limit - 4); byte_limit = byte_limit } }
+        ensures value { result ≡ record { context = []; place = 4; last = []; reading = going behind_magic [] (byte_limit - 4); byte_limit = byte_limit } }
     {
         let mut held = magic;
         held.pass(4);
@@ -133,15 +133,15 @@ impl KeptFile {
 
     /// The end, once it was answered.
     pub(crate) fn ended(&self) -> Option<FileEnd>
-        ensures end { result ≡ end_in self.now.reading }
-        ensures stands { StandsAt self.now self.now.reading }
+        ensures { result ≡ end_in self.now.reading }
     {
         self.ending
     }
 
     /// Goes past the last chunk's bytes.
     pub(crate) fn forget(&mut self)
-        ensures { self.new ≡ without_last self.old }
+        ensures forgotten { self.new ≡ without_last self.old }
+        ensures stands { StandsAt self.new self.new.reading }
     {
         self.held.pass(self.last);
         self.last = 0;
@@ -151,6 +151,7 @@ impl KeptFile {
     fn finish(&mut self, end: FileEnd) -> Next
         ensures over { self.new ≡ with_reading self.old (done end) }
         ensures value { result ≡ end_reading end }
+        ensures stands { StandsAt self.new self.new.reading }
     {
         self.ending = Some(end);
         next_of(end)
@@ -160,7 +161,8 @@ impl KeptFile {
     fn stop(&mut self, end: FileEnd) -> Inner
         requires ends { EndsAs file_rules self.old.reading end }
         requires fresh { self.old.last ≡ [] }
-        ensures { Does self.old self.new result }
+        ensures does { Does self.old self.new result }
+        ensures stands { StandsAt self.new self.new.reading }
     {
         Inner::Answer(self.finish(end))
     }
@@ -169,7 +171,8 @@ impl KeptFile {
     fn ask(&mut self) -> Inner
         requires short { IsShort self.old.reading }
         requires fresh { self.old.last ≡ [] }
-        ensures { Does self.old self.new result }
+        ensures does { Does self.old self.new result }
+        ensures stands { StandsAt self.new self.new.reading }
     {
         if self.held.bytes().len() - self.last > self.byte_limit - self.place {
             self.stop(FileEnd::SizeLimit)
@@ -182,7 +185,8 @@ impl KeptFile {
     pub(crate) fn step(&mut self) -> Inner
         requires going { IsGoing self.old.reading }
         requires fresh { self.old.last ≡ [] }
-        ensures { Does self.old self.new result }
+        ensures does { Does self.old self.new result }
+        ensures stands { StandsAt self.new self.new.reading }
     {
         let place = self.place;
         let bytes = counted(&self.held.bytes()[self.last..], self.byte_limit - place);
@@ -211,6 +215,7 @@ impl KeptFile {
         requires { IsGoing self.old.reading }
         ensures value { result ≡ end_reading (end_of file_rules self.old.reading ended) }
         ensures over { self.new ≡ with_reading self.old (done (end_of file_rules self.old.reading ended)) }
+        ensures stands { StandsAt self.new self.new.reading }
     {
         let at = self.place as u64;
         let left = (self.held.bytes().len() - self.last) as u64;
@@ -225,6 +230,7 @@ impl KeptFile {
     pub(crate) fn fail(&mut self) -> Next
         ensures value { result ≡ Next.ReadFault }
         ensures over { self.new ≡ with_reading self.old (done FileEnd.ReadFault) }
+        ensures stands { StandsAt self.new self.new.reading }
     {
         self.finish(FileEnd::ReadFault)
     }
@@ -241,6 +247,7 @@ impl KeptFile {
         ensures memory { IsErrOf result PieceFault.Memory → source.new ≡ source.old }
         ensures later { S.faults source.old ≤ S.faults source.new }
         ensures marked { S.mark source.new ≡ S.mark source.old }
+        ensures stands { StandsAt self.new self.new.reading }
     {
         let rest = &self.held.bytes()[self.last..];
         let room = self.byte_limit - self.place + 1 - rest.len();
