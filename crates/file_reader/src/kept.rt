@@ -9,7 +9,7 @@ ghost use Rattle.piece_reader.specs.Held.{HeldBytes};
 ghost use Rattle.piece_reader.specs.Steps.{EndsAs, Wants, end_of, gained};
 ghost use Rattle.chunk_grammar.specs.Chunk.{context_after};
 ghost use Rattle.file_model.specs.Reader.{behind_magic, end_reading, file_rules};
-ghost use Rattle.file_reader.specs.FileInlet.{FileInlet, StandsAt, end_in};
+ghost use Rattle.file_reader.specs.FileInlet.{FileInlet, IsHeld, StandsAt, end_in};
 ghost use Rattle.file_reader.specs.Kept.{Does, IsGoing, IsShort, with_reading, without_last};
 
 use crate::missing::missing;
@@ -62,7 +62,8 @@ impl Model for KeptFile {
       byte_limit = k.byte_limit;
     } };
 
-    ghost invariant = { λ k. (k.last ≤ length k.held.bytes) × (k.place ≤ k.byte_limit) × (k.byte_limit ≤ 2 ^ 40) × (k.place + length k.held.bytes ≤ k.byte_limit + 1 + k.last) };
+    ghost invariant = { λ k. (k.last ≤ length k.held.bytes) × (k.place ≤ k.byte_limit) × (k.byte_limit ≤ 2 ^ 40) × (k.place + length k.held.bytes ≤ k.byte_limit + 1 + k.last)
+        × (length k.held.bytes ≤ 67_108_873) };
 }
 
 // The bytes that count.
@@ -122,6 +123,14 @@ impl KeptFile {
         ensures { result.now ≡ self.now.last }
     {
         &self.held.bytes()[..self.last]
+    }
+
+    /// How many bytes are held.
+    pub(crate) fn held_bytes(&self) -> usize
+        ensures held { IsHeld self.now.last self.now.reading result }
+        ensures bound { result ≤ 67_108_873 }
+    {
+        self.held.bytes().len()
     }
 
     /// The streams whose headers were given.
@@ -238,7 +247,8 @@ impl KeptFile {
     /// Takes one piece of the source: what is surely missing, or as much as a piece has room for, but
     /// no more than one byte past those that count.
     pub(crate) fn take_piece<S: Source>(&mut self, source: &mut S) -> Result<usize, PieceFault>
-        requires { Wants file_rules self.old.reading }
+        requires wants { Wants file_rules self.old.reading }
+        requires fresh { self.old.last ≡ [] }
         ensures gains { IfOk result (λ n. (bytes : List ℕ) × Consumes (S.left source.old) (S.left source.new) bytes × (length bytes ≡ n) × (self.new ≡ with_reading self.old (gained bytes self.old.reading))) }
         ensures end { IfOk result (λ n. n ≡ 0 → IsAtEnd (S.left source.new)) }
         ensures kept { OnErr result (self.new ≡ self.old) }

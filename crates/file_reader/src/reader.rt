@@ -8,7 +8,7 @@ ghost use Rattle.rec_base.specs.Moved.{HasFailed};
 ghost use Rattle.reading_model.specs.Outlook.{Answered, How};
 ghost use Rattle.chunk_grammar.specs.Chunk.{magic};
 ghost use Rattle.file_model.specs.Reader.{file_counted, file_kind};
-ghost use Rattle.file_reader.specs.FileInlet.{IsGiven, IsNotXdf, IsSameEnd, StandsAt, got, outlook};
+ghost use Rattle.file_reader.specs.FileInlet.{IsGiven, IsHeld, IsNotXdf, IsSameEnd, StandsAt, got, outlook};
 ghost use Rattle.file_reader.specs.Kept.{IsGoing, without_last};
 
 use crate::fault::FileFault;
@@ -150,6 +150,15 @@ impl<S: Source> FileReader<S> {
         ensures { result.now ≡ self.now.file.context }
     {
         self.file.context()
+    }
+
+    /// How many bytes of the input are held: those of the last chunk and those that were taken behind
+    /// it. They are no more than a chunk can have, whatever its length tells.
+    pub fn held_bytes(&self) -> usize
+        ensures held { IsHeld self.now.file.last self.now.file.reading result }
+        ensures bound { result ≤ 67_108_873 }
+    {
+        self.file.held_bytes()
     }
 
     /// Gives the source back. Bytes that were taken and not gone past are gone.

@@ -130,8 +130,10 @@ fn a_recording_is_given_in_any_pieces(rt: HostRuntime) -> Result<(), Fail> {
 }
 
 #[test]
-fn a_place_without_a_chunk_is_told(rt: HostRuntime) -> Result<(), Fail> {
-    let rows: [(&[u8], &str); 4] = [
+fn a_place_without_a_whole_chunk_is_told(rt: HostRuntime) -> Result<(), Fail> {
+    let rows: [(&[u8], &str); 6] = [
+        (b"XDF:\x04\0\0\0\x04\x03\0", "Torn { at: 4, left: 7 }"),
+        (b"XDF:\x04\x01\0\0\x04", "Bad { at: 4, why: TooLong }"),
         (UNKNOWN_STREAM, "Bad { at: 8, why: UnknownStream }"),
         (
             REPEATED_STREAM,
@@ -190,7 +192,7 @@ fn after_a_failed_read_nothing_is_read(rt: HostRuntime) -> Result<(), Fail> {
 }
 
 #[test]
-fn headers_that_were_given_are_known(rt: HostRuntime) -> Result<(), Fail> {
+fn headers_are_known_and_texts_are_held(rt: HostRuntime) -> Result<(), Fail> {
     let source = source_of(rt.alloc(), RECORDING, 575)?;
     let Ok(mut reader) = FileReader::open(rt.alloc(), source, 575) else {
         panic!(rt; "no file");
@@ -199,8 +201,9 @@ fn headers_that_were_given_are_known(rt: HostRuntime) -> Result<(), Fail> {
         count: 1,
         format: Format::Int16,
     };
-    for shape in [None, None, None, Some(int16)] {
-        assert_eq!(rt; reader.context().shape_of(1), shape);
+    for (shape, held) in [(None, 0), (None, 571), (None, 511), (Some(int16), 327)] {
+        let is = (reader.context().shape_of(1), reader.held_bytes());
+        assert!(rt; is == (shape, held));
         let _ = reader.next();
     }
     Ok(())
