@@ -2,3 +2,5 @@ pub mod Steady
 pub mod Outlooks
 pub mod Passed
 pub mod Openings
+pub mod Torn
+pub mod Rooms

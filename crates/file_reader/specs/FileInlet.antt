@@ -54,6 +54,11 @@ abbrev pub IsSameEnd : Reading FileState FileEnd → Next → Type 0
 IsSameEnd (done e) next = next ≡ end_reading e
 IsSameEnd (going s rest room) next = ⊤
 
+-- where it goes on, so many bytes are held: the last chunk's and those behind them
+abbrev pub IsHeld : List ℕ → Reading FileState FileEnd → ℕ → Type 0
+IsHeld last (done e) n = ⊤
+IsHeld last (going s rest room) n = n ≡ length last + length rest
+
 -- the bytes that were taken are four and not the magic, or they are fewer than four and all that there were
 pub record IsNotXdf (before left : Option (List ℕ)) : Type 0 where
   pub taken : List ℕ

@@ -9,7 +9,7 @@ ghost use Rattle.piece_reader.specs.Held.{HeldBytes};
 ghost use Rattle.piece_reader.specs.Steps.{EndsAs, Wants, end_of, gained};
 ghost use Rattle.chunk_grammar.specs.Chunk.{context_after};
 ghost use Rattle.file_model.specs.Reader.{behind_magic, end_reading, file_rules};
-ghost use Rattle.file_reader.specs.FileInlet.{FileInlet, StandsAt, end_in};
+ghost use Rattle.file_reader.specs.FileInlet.{FileInlet, IsHeld, StandsAt, end_in};
 ghost use Rattle.file_reader.specs.Kept.{Does, IsGoing, IsShort, with_reading, without_last};
 
 use crate::missing::missing;
@@ -62,7 +62,8 @@ impl Model for KeptFile {
       byte_limit = k.byte_limit;
     } };
 
-    ghost invariant = { λ k. (k.last ≤ length k.held.bytes) × (k.place ≤ k.byte_limit) × (k.byte_limit ≤ 2 ^ 40) × (k.place + length k.held.bytes ≤ k.byte_limit + 1 + k.last) };
+    ghost invariant = { λ k. (k.last ≤ length k.held.bytes) × (k.place ≤ k.byte_limit) × (k.byte_limit ≤ 2 ^ 40) × (k.place + length k.held.bytes ≤ k.byte_limit + 1 + k.last)
+        × (length k.held.bytes ≤ 67_108_873) };
 }
 
 // The bytes that count.
@@ -102,7 +103,7 @@ impl KeptFile {
         requires low { 4 ≤ byte_limit }
         requires high { byte_limit ≤ 2 ^ 40 }
         requires size { length magic.bytes ≡ 4 }
-        ensures { result ≡ record { context = []; place = 4; last = []; reading = going behind_magic [] (byte_limit - 4); byte_limit = byte_limit } }
+        ensures value { result ≡ record { context = []; place = 4; last = []; reading = going behind_magic [] (byte_limit - 4); byte_limit = byte_limit } }
     {
         let mut held = magic;
         held.pass(4);
@@ -124,6 +125,14 @@ impl KeptFile {
         &self.held.bytes()[..self.last]
     }
 
+    /// How many bytes are held.
+    pub(crate) fn held_bytes(&self) -> usize
+        ensures held { IsHeld self.now.last self.now.reading result }
+        ensures bound { result ≤ 67_108_873 }
+    {
+        self.held.bytes().len()
+    }
+
     /// The streams whose headers were given.
     pub(crate) fn context(&self) -> &Context
         ensures { result.now ≡ self.now.context }
@@ -133,15 +142,15 @@ impl KeptFile {
 
     /// The end, once it was answered.
     pub(crate) fn ended(&self) -> Option<FileEnd>
-        ensures end { result ≡ end_in self.now.reading }
-        ensures stands { StandsAt self.now self.now.reading }
+        ensures { result ≡ end_in self.now.reading }
     {
         self.ending
     }
 
     /// Goes past the last chunk's bytes.
     pub(crate) fn forget(&mut self)
-        ensures { self.new ≡ without_last self.old }
+        ensures forgotten { self.new ≡ without_last self.old }
+        ensures stands { StandsAt self.new self.new.reading }
     {
         self.held.pass(self.last);
         self.last = 0;
@@ -151,6 +160,7 @@ impl KeptFile {
     fn finish(&mut self, end: FileEnd) -> Next
         ensures over { self.new ≡ with_reading self.old (done end) }
         ensures value { result ≡ end_reading end }
+        ensures stands { StandsAt self.new self.new.reading }
     {
         self.ending = Some(end);
         next_of(end)
@@ -160,7 +170,8 @@ impl KeptFile {
     fn stop(&mut self, end: FileEnd) -> Inner
         requires ends { EndsAs file_rules self.old.reading end }
         requires fresh { self.old.last ≡ [] }
-        ensures { Does self.old self.new result }
+        ensures does { Does self.old self.new result }
+        ensures stands { StandsAt self.new self.new.reading }
     {
         Inner::Answer(self.finish(end))
     }
@@ -169,7 +180,8 @@ impl KeptFile {
     fn ask(&mut self) -> Inner
         requires short { IsShort self.old.reading }
         requires fresh { self.old.last ≡ [] }
-        ensures { Does self.old self.new result }
+        ensures does { Does self.old self.new result }
+        ensures stands { StandsAt self.new self.new.reading }
     {
         if self.held.bytes().len() - self.last > self.byte_limit - self.place {
             self.stop(FileEnd::SizeLimit)
@@ -182,7 +194,8 @@ impl KeptFile {
     pub(crate) fn step(&mut self) -> Inner
         requires going { IsGoing self.old.reading }
         requires fresh { self.old.last ≡ [] }
-        ensures { Does self.old self.new result }
+        ensures does { Does self.old self.new result }
+        ensures stands { StandsAt self.new self.new.reading }
     {
         let place = self.place;
         let bytes = counted(&self.held.bytes()[self.last..], self.byte_limit - place);
@@ -211,6 +224,7 @@ impl KeptFile {
         requires { IsGoing self.old.reading }
         ensures value { result ≡ end_reading (end_of file_rules self.old.reading ended) }
         ensures over { self.new ≡ with_reading self.old (done (end_of file_rules self.old.reading ended)) }
+        ensures stands { StandsAt self.new self.new.reading }
     {
         let at = self.place as u64;
         let left = (self.held.bytes().len() - self.last) as u64;
@@ -225,6 +239,7 @@ impl KeptFile {
     pub(crate) fn fail(&mut self) -> Next
         ensures value { result ≡ Next.ReadFault }
         ensures over { self.new ≡ with_reading self.old (done FileEnd.ReadFault) }
+        ensures stands { StandsAt self.new self.new.reading }
     {
         self.finish(FileEnd::ReadFault)
     }
@@ -232,7 +247,8 @@ impl KeptFile {
     /// Takes one piece of the source: what is surely missing, or as much as a piece has room for, but
     /// no more than one byte past those that count.
     pub(crate) fn take_piece<S: Source>(&mut self, source: &mut S) -> Result<usize, PieceFault>
-        requires { Wants file_rules self.old.reading }
+        requires wants { Wants file_rules self.old.reading }
+        requires fresh { self.old.last ≡ [] }
         ensures gains { IfOk result (λ n. (bytes : List ℕ) × Consumes (S.left source.old) (S.left source.new) bytes × (length bytes ≡ n) × (self.new ≡ with_reading self.old (gained bytes self.old.reading))) }
         ensures end { IfOk result (λ n. n ≡ 0 → IsAtEnd (S.left source.new)) }
         ensures kept { OnErr result (self.new ≡ self.old) }
@@ -241,6 +257,7 @@ impl KeptFile {
         ensures memory { IsErrOf result PieceFault.Memory → source.new ≡ source.old }
         ensures later { S.faults source.old ≤ S.faults source.new }
         ensures marked { S.mark source.new ≡ S.mark source.old }
+        ensures stands { StandsAt self.new self.new.reading }
     {
         let rest = &self.held.bytes()[self.last..];
         let room = self.byte_limit - self.place + 1 - rest.len();

@@ -14,3 +14,6 @@ mod reader;
 pub use fault::FileFault;
 pub use file_model::{FileEnd, Next};
 pub use reader::FileReader;
+
+#[cfg(test)]
+mod tests;

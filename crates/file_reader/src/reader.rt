@@ -8,7 +8,7 @@ ghost use Rattle.rec_base.specs.Moved.{HasFailed};
 ghost use Rattle.reading_model.specs.Outlook.{Answered, How};
 ghost use Rattle.chunk_grammar.specs.Chunk.{magic};
 ghost use Rattle.file_model.specs.Reader.{file_counted, file_kind};
-ghost use Rattle.file_reader.specs.FileInlet.{IsGiven, IsNotXdf, IsSameEnd, StandsAt, got, outlook};
+ghost use Rattle.file_reader.specs.FileInlet.{IsGiven, IsHeld, IsNotXdf, IsSameEnd, StandsAt, got, outlook};
 ghost use Rattle.file_reader.specs.Kept.{IsGoing, without_last};
 
 use crate::fault::FileFault;
@@ -62,6 +62,7 @@ impl<S: Source + Drop> FileReader<S> {
         ensures magic { IfOk result (λ r. Consumes (S.left source) (S.left r.source) magic) }
         ensures all { IfOk result (λ r. (more : List ℕ) (how : How) → (outlook r.file).coming more how ≡ file_counted (byte_limit - 4) more how) }
         ensures fresh { IfOk result (λ r. ((outlook r.file).is_over ≡ false) × (r.file.context ≡ []) × (r.file.place ≡ 4) × (r.file.last ≡ []) × (r.file.byte_limit ≡ byte_limit)) }
+        ensures stands { IfOk result (λ r. StandsAt r.file r.file.reading) }
         ensures source { IfOk result (λ r. (S.mark r.source ≡ S.mark source) × (S.faults source ≤ S.faults r.source)) }
         ensures not_xdf { IsErrOf result FileFault.NotXdf → (last : S) × IsNotXdf (S.left source) (S.left last) }
         ensures read_fault { IsErrOf result FileFault.ReadFault → (last : S) × HasFailed S.left S.faults S.mark source last }
@@ -96,6 +97,7 @@ impl<S: Source> FileReader<S> {
         ensures answer { Answered file_kind (outlook self.old.file) (outlook self.new.file) (S.left self.old.source) (S.left self.new.source) (got result) }
         ensures chunk { IsGiven self.old.file self.new.file result }
         ensures limit { self.new.file.byte_limit ≡ self.old.file.byte_limit }
+        ensures stands { StandsAt self.new.file self.new.file.reading }
         ensures stays { IsTrue (outlook self.old.file).is_over → (self.new.source ≡ self.old.source) × (self.new.file ≡ without_last self.old.file) }
         ensures same_end { IsTrue (outlook self.old.file).is_over → IsSameEnd self.old.file.reading result }
         ensures cause { (outlook self.old.file).is_over ≡ false → result ≡ Next.ReadFault → Rose (S.faults self.old.source) (S.faults self.new.source) }
@@ -117,6 +119,7 @@ impl<S: Source> FileReader<S> {
         ensures answer { Answered file_kind (outlook self.old.file) (outlook self.new.file) (S.left self.old.source) (S.left self.new.source) (got result) }
         ensures chunk { IsGiven self.old.file self.new.file result }
         ensures limit { self.new.file.byte_limit ≡ self.old.file.byte_limit }
+        ensures stands { StandsAt self.new.file self.new.file.reading }
         ensures cause { result ≡ Next.ReadFault → Rose (S.faults self.old.source) (S.faults self.new.source) }
         ensures later { S.faults self.old.source ≤ S.faults self.new.source }
         ensures marked { S.mark self.new.source ≡ S.mark self.old.source }
@@ -147,6 +150,15 @@ impl<S: Source> FileReader<S> {
         ensures { result.now ≡ self.now.file.context }
     {
         self.file.context()
+    }
+
+    /// How many bytes of the input are held: those of the last chunk and those that were taken behind
+    /// it. They are no more than a chunk can have, whatever its length tells.
+    pub fn held_bytes(&self) -> usize
+        ensures held { IsHeld self.now.file.last self.now.file.reading result }
+        ensures bound { result ≤ 67_108_873 }
+    {
+        self.file.held_bytes()
     }
 
     /// Gives the source back. Bytes that were taken and not gone past are gone.

@@ -4,8 +4,8 @@ use Rattle.piece_reader.specs.Held.{HeldBytes}
 use Rattle.file_reader.proofs.Passed.{chunk_passed}
 use Rattle.file_reader.proofs.kept.KeptFile.step.Goals as goal
 
-pub returns-else-not-pass_chunk : goal.returns-else-not-pass_chunk
-returns-else-not-pass_chunk c =
+pub returns-else-not-pass_chunk-clause-does : goal.returns-else-not-pass_chunk-clause-does
+returns-else-not-pass_chunk-clause-does c =
     let i = c.self.inside in
     let text = c.in-Whole.ensures.whole c.in-Whole.chunk c.in-Whole.used refl in
     let count = i.byte_limit - i.place in

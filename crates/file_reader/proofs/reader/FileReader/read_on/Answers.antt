@@ -5,7 +5,7 @@ use Rattle.file_reader.proofs.reader.FileReader.read_on.Goals as goal
 
 pub returns-in-Answer-clause-answer : goal.returns-in-Answer-clause-answer
 returns-in-Answer-clause-answer g c =
-    answered_step c.in-Answer.next c.args.self.now.file c.pieces.self.file c.step.new.self _ _ c.pieces.invariant.carried c.pieces.invariant.going c.in-Answer.ensures
+    answered_step c.in-Answer.next c.args.self.now.file c.pieces.self.file c.step.new.self _ _ c.pieces.invariant.carried c.pieces.invariant.going c.in-Answer.ensures.does
 
 pub returns-in-Ok-eq0-clause-answer : goal.returns-in-Ok-eq0-clause-answer
 returns-in-Ok-eq0-clause-answer g c =
@@ -13,8 +13,8 @@ returns-in-Ok-eq0-clause-answer g c =
     let start = c.args.self.now.file in
     let mid = c.step.new.self in
     let new = c.take_piece.new.self in
-    let same = c.in-Want.ensures.1 in
-    let wants = want_wants c.pieces.self.file mid c.in-Want.ensures.0 same in
+    let same = c.in-Want.ensures.does.1 in
+    let wants = want_wants c.pieces.self.file mid c.in-Want.ensures.does.0 same in
     let carried = piece_carried start mid new _ _ _ gains.0 (want_carried start c.pieces.self.file mid _ _ c.pieces.invariant.carried same) wants gains.1 gains.3 in
     let still = want_wants mid new wants (piece_none mid new gains.0 (search rules) gains.3) in
     answered_end c.end_input.result start new c.end_input.new.self _ _ carried still (search rules) c.end_input.ensures.value c.end_input.ensures.over
@@ -25,8 +25,8 @@ pieces-preserved g c =
     let start = c.args.self.now.file in
     let mid = c.step.new.self in
     let new = c.take_piece.new.self in
-    let same = c.in-Want.ensures.1 in
-    let wants = want_wants c.pieces.self.file mid c.in-Want.ensures.0 same in
+    let same = c.in-Want.ensures.does.1 in
+    let wants = want_wants c.pieces.self.file mid c.in-Want.ensures.does.0 same in
     record {
       carried = piece_carried start mid new _ _ _ gains.0 (want_carried start c.pieces.self.file mid _ _ c.pieces.invariant.carried same) wants gains.1 gains.3;
       going = (piece_goes mid new gains.0 wants (λ none. c.in-Ok.field-0-test.1 (sym gains.2 ∙ none)) gains.3).going;
@@ -37,7 +37,7 @@ pieces-preserved g c =
 
 pub returns-in-Err-Failed-clause-answer : goal.returns-in-Err-Failed-clause-answer
 returns-in-Err-Failed-clause-answer g c =
-    let same = c.in-Err-Failed.ensures.kept ∙ c.in-Want.ensures.1 in
+    let same = c.in-Err-Failed.ensures.kept ∙ c.in-Want.ensures.does.1 in
     let here = want_carried c.args.self.now.file c.pieces.self.file c.take_piece.new.self _ _ c.pieces.invariant.carried same in
     answered_fault c.fail.result c.args.self.now.file c.take_piece.new.self c.fail.new.self _ _ (carried_kept _ _ _ _ _ here c.in-Err-Failed.ensures.left)
-    (want_wants c.pieces.self.file c.take_piece.new.self c.in-Want.ensures.0 same) c.fail.ensures.value c.fail.ensures.over
+    (want_wants c.pieces.self.file c.take_piece.new.self c.in-Want.ensures.does.0 same) c.fail.ensures.value c.fail.ensures.over
