@@ -4,11 +4,8 @@ pub mod Faults
 pub mod Feeds
 pub mod Fronts
 pub mod Inputs
-pub mod OneFront
 pub mod Plans
 pub mod Recordings
 pub mod Samples
 pub mod ShowFaults
-pub mod Shown
-pub mod ShownWhole
-pub mod Stops
+pub mod Shows

@@ -13,12 +13,11 @@ use Rattle.inlet_model.specs.declared.end.FeedEnd.{FeedEnd}
 use Rattle.record_cli.specs.Words.{record_words}
 use Rattle.record_cli.specs.Inputs.{IsFirstForm}
 use Rattle.record_cli.specs.Recorded.{int16_stream, IsRecordingOf}
-use Rattle.record_cli.specs.Show.{IsShownWhole}
 
 pub recording_of : {S M : Type 0} (left_of : S → Option (List ℕ)) (faults_of : S → ℕ) (mark_of : S → M) (contents : Option Contents) (words : List (List ℕ)) (plan out : List ℕ) (samples : List Sample) (end : FeedEnd) (cs : List Chunk)
-    → record_words words ≡ Ok (plan, out) → IsFirstForm left_of faults_of mark_of contents plan out samples end → IsRecording (int16_stream ∷ []) (one_batch samples) cs → IsFileText cs (least_file_text cs) → IsShownWhole (least_file_text cs) cs
+    → record_words words ≡ Ok (plan, out) → IsFirstForm left_of faults_of mark_of contents plan out samples end → IsRecording (int16_stream ∷ []) (one_batch samples) cs → IsFileText cs (least_file_text cs)
     → IsRecordingOf left_of faults_of mark_of contents words out samples end cs
-recording_of {S} {M} left_of faults_of mark_of contents words plan out samples end cs command form recording text shown = record { plan = plan; command = command; form = form; recording = recording; text = text; shown = shown }
+recording_of {S} {M} left_of faults_of mark_of contents words plan out samples end cs command form recording text = record { plan = plan; command = command; form = form; recording = recording; text = text }
 
 pub becomes_from : (a b c : Option (List ℕ)) (xs ys : List ℕ) → b ≡ a → xs ≡ ys → Becomes b c xs → Becomes a c ys
 becomes_from a b c xs ys same is becomes =

@@ -14,21 +14,18 @@ use Rattle.record_cli.specs.Words.{record_words}
 use Rattle.record_cli.specs.Ends.{end_text}
 use Rattle.record_cli.specs.Feed.{int16_document, int16_shape}
 use Rattle.record_cli.specs.Inputs.{IsFirstForm}
-use Rattle.record_cli.specs.Show.{IsShownWhole}
 
 -- the one stream of the recording
 abbrev pub int16_stream : StreamDoc
 int16_stream = record { id = 1; doc = int16_document; shape = int16_shape }
 
--- the words name a plan and an output, the inputs are of the form, the feed ended so, and cs is the recording of its samples in one batch,
--- whose file `show` shows whole
+-- the words name a plan and an output, the inputs are of the form, the feed ended so, and cs is the recording of its samples in one batch
 pub record IsRecordingOf {S M : Type 0} (left_of : S → Option (List ℕ)) (faults_of : S → ℕ) (mark_of : S → M) (contents : Option Contents) (words : List (List ℕ)) (out : List ℕ) (samples : List Sample) (end : FeedEnd) (cs : List Chunk) : Type 0 where
   pub plan : List ℕ
   pub command : record_words words ≡ Ok (plan, out)
   pub form : IsFirstForm left_of faults_of mark_of contents plan out samples end
   pub recording : IsRecording (int16_stream ∷ []) (one_batch samples) cs
   pub text : IsFileText cs (least_file_text cs)
-  pub shown : IsShownWhole (least_file_text cs) cs
 
 -- a dock whose file of this name was just created
 abbrev pub IsCreated : Option (List ℕ) → Option (List ℕ) → Option (List ℕ) → Option (List ℕ) → List ℕ → Type 0

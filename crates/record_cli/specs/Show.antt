@@ -1,83 +1,98 @@
 -- What `show` says of a file. This project's own.
-use Rattle.std.specs.Prelude.{◌≡◌, ◌≢◌, ◌⊎◌, ℕ, Bool, ◌==◌, ◌||◌, ⊤, List, [], ◌∷◌, ◌++◌, length, map, Option, Result, Ok, Err, cond, codes}
+use Rattle.std.specs.Prelude.{◌≡◌, ◌≢◌, ℕ, Bool, ◌==◌, ◌||◌, List, [], ◌∷◌, ◌++◌, drop, Option, Some, slice_get, Result, Ok, Err, cond, codes}
+use Rattle.std.specs.Io.KnownBytes.{Consumes}
 use Rattle.std.specs.Fmt.{decimal}
-use Rattle.std.specs.List.{AllByRecursion}
 use Rattle.rec_base.specs.declared.name.Name.TheVariants.{File}
-use Rattle.rec_base.specs.Contents.{Contents, IsInput}
-use Rattle.chunk_grammar.specs.declared.chunk.Chunk.{Chunk}
-use Rattle.chunk_grammar.specs.declared.chunk.Chunk.TheVariants.{FileHeader, StreamHeader, Samples, ClockOffset, Boundary, StreamFooter, Other}
-use Rattle.chunk_grammar.specs.Chunk.{Context, IsChunkText, magic}
-use Rattle.recording_model.specs.Recording.{ledger_document}
-use Rattle.report_model.specs.Placed.{Placed, Stand, context_behind, placed_lines, end_line}
+use Rattle.rec_base.specs.Contents.{Contents, IsOpened}
+use Rattle.reading_model.specs.Read.{Reader, IsRead, IsReadingOf}
+use Rattle.chunk_grammar.specs.Chunk.{magic}
+use Rattle.file_model.specs.declared.end.FileEnd.{FileEnd}
+use Rattle.file_model.specs.declared.end.FileEnd.TheVariants.{End, Torn, Bad, ReadFault, SizeLimit}
+use Rattle.file_model.specs.Reader.{ChunkAt, file_counted, file_kind}
+use Rattle.file_reader.specs.FileInlet.{IsNotXdf}
+use Rattle.report_model.specs.Shown.{AreFirstLines}
+use Rattle.record_cli.specs.declared.show.Shown.{Shown}
+use Rattle.record_cli.specs.declared.show.Shown.TheVariants as shown
 use Rattle.record_cli.specs.Words.{file_words}
-use Rattle.record_cli.specs.Feed.{int16_document}
 
--- the most bytes of a file that is shown in this stage
-abbrev pub show_limit : ℕ
-show_limit = 1_048_576
+-- the most bytes of a file that count behind its first four: 2 to the 40 in all
+abbrev pub chunk_limit : ℕ
+chunk_limit = 1_099_511_627_772
 
--- a chunk that is shown in this stage. Only two documents join the context, so samples are int16 or int64
-abbrev pub IsShown : Chunk → Type 0
-IsShown (FileHeader doc) = ⊤
-IsShown (StreamHeader id doc) = (doc ≡ int16_document) ⊎ (doc ≡ ledger_document)
-IsShown (Samples id samples) = ⊤
-IsShown (ClockOffset id time offset) = ⊥
-IsShown Boundary = ⊥
-IsShown (StreamFooter id doc) = ⊤
-IsShown (Other tag body) = ⊥
+-- the chunks of some bytes of a file behind its first four, and the end, where the input goes on so behind them
+abbrev pub file_chunks : Reader ChunkAt FileEnd
+file_chunks b how = file_counted chunk_limit (drop 4 b) how
 
--- no chunk that is shown stands at the front of these bytes
-abbrev pub IsStop : Context → List ℕ → Type 0
-IsStop ctx b = (c : Chunk) (u after : List ℕ) → IsChunkText ctx c u → b ≡ u ++ after → IsShown c → ⊥
-
--- a file is the magic, chunks that are shown, and a rest
-pub record IsShownFront (b : List ℕ) (placed : List Placed) (rest : List ℕ) : Type 0 where
-  pub chunks : List ℕ
-  pub whole : b ≡ magic ++ chunks
-  pub stand : Stand [] placed chunks rest
-  pub shown : AllByRecursion (λ p. IsShown p.chunk) placed
-
--- these are all chunks of a file that is shown up to its end
-abbrev pub IsShownWhole : List ℕ → List Chunk → Type 0
-IsShownWhole b cs = (placed : List Placed) × IsShownFront b placed [] × (map (λ p. p.chunk) placed ≡ cs)
-
--- the words are `show` and a name, which has this text
-pub record IsShowOf (contents : Option Contents) (words : List (List ℕ)) (b : List ℕ) : Type 0 where
+-- the words are `show` and a name, and a source was opened there
+pub record IsShowOf {S : Type 0} (left_of : S → Option (List ℕ)) (contents : Option Contents) (words : List (List ℕ)) (first : S) : Type 0 where
   pub name : List ℕ
   pub command : file_words words ≡ Ok name
-  pub input : IsInput contents (File name) 0 b
+  pub opened : IsOpened contents (File name) 0 (left_of first)
 
--- the lines of the chunks behind the magic
-abbrev pub front_lines : List Placed → List (List ℕ)
-front_lines placed = placed_lines [] 4 placed
+-- where contents are told, the first text at the name begins with the magic, and has these chunks and this end
+abbrev pub IsTold : Option Contents → List (List ℕ) → List ChunkAt → FileEnd → Type 0
+IsTold contents words chunks end =
+    (texts : Contents) → contents ≡ Some texts → (name : List ℕ) × (text : List ℕ) × (file_words words ≡ Ok name) × (slice_get (texts (File name)) 0 ≡ Some text)
+    × ((rest : List ℕ) × (text ≡ magic ++ rest)) × IsReadingOf file_kind file_chunks text chunks end
 
--- all lines of a file that is chunks up to its end
-abbrev pub show_lines : List ℕ → List Placed → List (List ℕ)
-show_lines b placed = front_lines placed ++ end_line (length b) (length placed) ∷ []
-
--- the lines up to a place: with the last one only where nothing is left behind it
-abbrev pub lines_up_to : List ℕ → List Placed → List ℕ → List (List ℕ)
-lines_up_to b placed [] = show_lines b placed
-lines_up_to b placed (x ∷ rest) = front_lines placed
-
--- a file that has a place other than its end at which no chunk stands that is shown
-pub record IsOtherPlace (b : List ℕ) (placed : List Placed) : Type 0 where
+-- a file begins with the magic, and has these chunks and this end
+pub record IsFileOf {S M : Type 0} (left_of : S → Option (List ℕ)) (faults_of : S → ℕ) (mark_of : S → M) (contents : Option Contents) (words : List (List ℕ)) (chunks : List ChunkAt) (end : FileEnd) : Type 0 where
+  pub first : S
+  pub last : S
+  pub show : IsShowOf left_of contents words first
+  pub read : IsRead left_of faults_of mark_of file_kind file_chunks first last chunks end
   pub rest : List ℕ
-  pub front : IsShownFront b placed rest
-  pub some : rest ≢ []
-  pub stop : IsStop (context_behind [] placed) rest
+  pub begins : read.taken ≡ magic ++ rest
+  pub told : IsTold contents words chunks end
 
--- the statuses, those that say one line alone, and those lines
+-- a file begins with the magic, and these are its first lines, whatever it has behind the bytes that were taken
+pub record IsFileFrom {S : Type 0} (left_of : S → Option (List ℕ)) (contents : Option Contents) (words : List (List ℕ)) (lines : List (List ℕ)) : Type 0 where
+  pub first : S
+  pub last : S
+  pub show : IsShowOf left_of contents words first
+  pub rest : List ℕ
+  pub lost : Consumes (left_of first) (left_of last) (magic ++ rest)
+  pub lines_first : AreFirstLines file_chunks (magic ++ rest) lines
+
+-- a file doesn't begin with the magic
+pub record IsOtherFile {S : Type 0} (left_of : S → Option (List ℕ)) (contents : Option Contents) (words : List (List ℕ)) : Type 0 where
+  pub first : S
+  pub last : S
+  pub show : IsShowOf left_of contents words first
+  pub other : IsNotXdf (left_of first) (left_of last)
+
+-- where contents are told, the first text at the name doesn't begin with the magic
+abbrev pub IsToldOther : Option Contents → List (List ℕ) → Type 0
+IsToldOther contents words =
+    (texts : Contents) → contents ≡ Some texts → (name : List ℕ) × (text : List ℕ) × (file_words words ≡ Ok name) × (slice_get (texts (File name)) 0 ≡ Some text)
+    × ((rest : List ℕ) → text ≢ magic ++ rest)
+
+-- the status by the end of a file whose lines were said
+abbrev pub file_status : FileEnd → ℕ
+file_status (End at) = 0
+file_status (Torn at left) = 1
+file_status (Bad at why) = 6
+file_status ReadFault = 4
+file_status SizeLimit = 7
+
+abbrev pub shown_status : Shown → ℕ
+shown_status shown.Whole = 0
+shown_status shown.Torn = 1
+shown_status shown.Bad = 6
+
+-- the statuses, those of a file that was shown to its end or to a place where no chunk stands, and those that say one line alone
 abbrev pub is_show_status : ℕ → Bool
-is_show_status n = n == 0 || n == 2 || n == 3 || n == 4 || n == 8 || n == 9 || n == 10
+is_show_status n = n == 0 || n == 1 || n == 2 || n == 3 || n == 4 || n == 6 || n == 7 || n == 8 || n == 9
+
+abbrev pub is_shown : ℕ → Bool
+is_shown n = n == 0 || n == 1 || n == 6
 
 abbrev pub says_one_line : ℕ → Bool
-says_one_line n = n == 2 || n == 3 || n == 4
+says_one_line n = n == 2 || n == 3
 
 abbrev pub file_usage_of : Result (List ℕ) ℕ → ℕ
 file_usage_of (Ok name) = 0
 file_usage_of (Err why) = why
 
 abbrev pub show_fault_text : List (List ℕ) → ℕ → List ℕ
-show_fault_text words n =
-    cond (n == 2) (codes "fault 2 usage " ++ decimal (file_usage_of (file_words words))) (cond (n == 3) (codes "fault 3") (codes "fault 4"))
+show_fault_text words n = cond (n == 2) (codes "fault 2 usage " ++ decimal (file_usage_of (file_words words))) (codes "fault 3")

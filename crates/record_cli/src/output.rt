@@ -13,7 +13,6 @@ ghost use Rattle.recording_model.specs.Batch.{one_batch};
 ghost use Rattle.recording_model.specs.Recording.{IsRecording};
 ghost use Rattle.record_cli.specs.Feed.{int16_shape, most_samples};
 ghost use Rattle.record_cli.specs.Recorded.{int16_stream, feed_line, recorded_line, IsCreated};
-ghost use Rattle.record_cli.specs.Show.{IsShownWhole};
 ghost use Rattle.record_cli.specs.Said.{SaysFault};
 ghost use Rattle.record_cli.specs.Words.{is_usage};
 
@@ -42,7 +41,7 @@ pub(crate) fn make_ready(alloc: Global, read: ReadFeed) -> Result<Ready, Memory>
     ensures { IfOk result (λ ready. (cs : List ChunkValue) × IsRecording (int16_stream ∷ []) (one_batch read.samples) cs
         × IsFileText cs (least_file_text cs) × (ready.text.items ≡ least_file_text cs)
         × (string_bytes ready.feed_line ≡ feed_line (length read.samples) read.end)
-        × (string_bytes ready.recorded_line ≡ recorded_line (length (least_file_text cs)) (length cs)) × IsShownWhole (least_file_text cs) cs) }
+        × (string_bytes ready.recorded_line ≡ recorded_line (length (least_file_text cs)) (length cs))) }
 {
     let stream = StreamDoc {
         id: 1,

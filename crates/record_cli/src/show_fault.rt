@@ -9,19 +9,19 @@ pub(crate) enum ShowFault {
     /// The file doesn't begin as an XDF file does.
     #[error("no XDF file")]
     NotXdf,
-    /// The file can't be opened or read.
+    /// The file can't be opened, or its first bytes can't be read.
     #[error("the file can't be opened or read")]
     Open,
+    /// A read behind the chunks that were shown failed.
+    #[error("the file can't be read to its end")]
+    Read,
+    /// The file is too long, and the chunks within the limit were shown.
+    #[error("the file is too long")]
+    SizeLimit,
     /// A line can't be said.
     #[error("a line can't be said")]
     Say,
     /// There is no memory.
     #[error("out of memory")]
     Memory,
-    /// The file is longer than is shown yet.
-    #[error("longer than is shown yet")]
-    TooLong,
-    /// Behind the lines that were said stands no chunk of a form that is shown yet.
-    #[error("of a form that isn't shown yet")]
-    OtherPlace,
 }

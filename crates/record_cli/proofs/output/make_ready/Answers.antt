@@ -7,11 +7,7 @@ use Rattle.recording_model.specs.Batch.{one_batch}
 use Rattle.recording_model.specs.Recording.{IsRecording}
 use Rattle.record_cli.specs.Feed.{int16_shape}
 use Rattle.record_cli.specs.Recorded.{recorded_line}
-use Rattle.std.specs.List.{AllByRecursion}
 use Rattle.chunk_grammar.specs.declared.chunk.Chunk.{Chunk}
-use Rattle.record_writer.specs.OneBatch.{one_chunks}
-use Rattle.record_cli.specs.Show.{IsShown}
-use Rattle.record_cli.proofs.ShownWhole.{recording_shown, shown_whole}
 use Rattle.record_cli.proofs.Samples.{texts_short, stream_short}
 use Rattle.record_cli.proofs.output.make_ready.Goals as goal
 
@@ -31,7 +27,6 @@ returns c =
     let stream_of : List ℕ → StreamDoc = λ d. record { id = 1; doc = d; shape = int16_shape } in
     let P : List ℕ → Type 0 = λ d. IsRecording (stream_of d ∷ []) (one_batch c.args.read.samples) cs in
     let Q : List ℕ → Type 0 = λ b. IsFileText cs b in
-    let S : List Chunk → Type 0 = λ l. AllByRecursion IsShown l in
     let size = c.len-bytes.ensures ∙ c.in_ok-text.text.bytes.ok.0 ∙ ap length r.3 in (
       cs,
       subst P c.in_ok-from_bytes.ensures r.1,
@@ -39,5 +34,4 @@ returns c =
       r.3,
       c.in_ok-feed_line.ensures.ok ∙ ap (λ (n : ℕ). line n (string_bytes c.in_ok-ended.ended)) c.len-received.ensures ∙ ap (line (length c.args.read.samples)) c.in_ok-ended.ensures,
       c.in_ok-recorded_line.ensures.ok ∙ ap (λ (n : ℕ). recorded_line n c.in_ok-text.text.chunks) size ∙ ap (recorded_line (length (least_file_text cs))) r.4,
-      shown_whole cs (least_file_text cs) (subst Q r.3 r.2) (subst S (sym (r.5 ∙ ap (λ (d : List ℕ). one_chunks (stream_of d) c.args.read.samples) c.in_ok-from_bytes.ensures)) (recording_shown c.args.read.samples)),
     )
