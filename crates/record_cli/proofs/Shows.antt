@@ -12,11 +12,14 @@ use Rattle.reading_model.specs.Read.{Reader, EndsSo, IsRead, IsReadingOf}
 use Rattle.piece_reader.proofs.Ending.{reading_of}
 use Rattle.chunk_grammar.specs.Chunk.{magic}
 use Rattle.file_model.specs.declared.end.FileEnd.{FileEnd}
+use Rattle.file_model.specs.declared.end.FileEnd.TheVariants as file
 use Rattle.file_model.specs.Reader.{ChunkAt, file_counted, file_kind}
+use Rattle.stream_report.specs.declared.file.ShowEnd.TheVariants as end
+use Rattle.stream_report.specs.Ends.{show_end}
 use Rattle.file_reader.specs.FileInlet.{IsNotXdf}
 use Rattle.report_model.specs.Shown.{show_lines, AreFirstLines}
 use Rattle.record_cli.specs.Words.{file_words}
-use Rattle.record_cli.specs.Show.{chunk_limit, file_chunks, IsShowOf, IsTold, IsFileOf, IsFileFrom, IsOtherFile, IsToldOther}
+use Rattle.record_cli.specs.Show.{chunk_limit, file_chunks, IsShowOf, IsTold, IsFileOf, IsFileFrom, IsOtherFile, IsToldOther, file_status}
 
 -- what comes behind the magic
 behind : (taken : List ℕ) (how : How) → file_chunks (magic ++ taken) how ≡ file_counted chunk_limit taken how
@@ -24,35 +27,35 @@ behind taken how = refl
 
 -- what a reader that went past the magic gives is what the whole file gives
 module _ (reader : Reader ChunkAt FileEnd) (all : (more : List ℕ) (how : How) → reader more how ≡ file_counted chunk_limit more how) where
-  whole_ends : (kind : Kind) (taken : List ℕ) (left : Option (List ℕ)) (chunks : List ChunkAt) (end : FileEnd) → EndsSo kind reader taken left chunks end → EndsSo kind file_chunks (magic ++ taken) left chunks end
-  whole_ends final taken left chunks end h = λ more how. sym (all (taken ++ more) how) ∙ h more how
-  whole_ends at_limit taken left chunks end h = λ more how. sym (all (taken ++ more) how) ∙ h more how
-  whole_ends at_end taken left chunks end h = (h.0, sym (all taken ended) ∙ h.1)
-  whole_ends at_fault taken left chunks end h = sym (all taken failed) ∙ h
+  whole_ends : (kind : Kind) (taken : List ℕ) (left : Option (List ℕ)) (chunks : List ChunkAt) (e : FileEnd) → EndsSo kind reader taken left chunks e → EndsSo kind file_chunks (magic ++ taken) left chunks e
+  whole_ends final taken left chunks e h = λ more how. sym (all (taken ++ more) how) ∙ h more how
+  whole_ends at_limit taken left chunks e h = λ more how. sym (all (taken ++ more) how) ∙ h more how
+  whole_ends at_end taken left chunks e h = (h.0, sym (all taken ended) ∙ h.1)
+  whole_ends at_fault taken left chunks e h = sym (all taken failed) ∙ h
 
   pub whole_lines : (taken : List ℕ) (lines : List (List ℕ)) → AreFirstLines reader taken lines → AreFirstLines file_chunks (magic ++ taken) lines
   whole_lines taken lines h = λ more how. let k = h more how in (k.0, ap show_lines (sym (all (taken ++ more) how)) ∙ k.1)
 
 -- a source that was opened where contents are told has the text there
-told_left : (texts : Contents) (name : List ℕ) (left last : Option (List ℕ)) (rest : List ℕ) (chunks : List ChunkAt) (end : FileEnd)
-    → IsOpened (Some texts) (File name) 0 left → Consumes left last (magic ++ rest) → EndsSo (file_kind end) file_chunks (magic ++ rest) last chunks end
-    → (text : List ℕ) × (slice_get (texts (File name)) 0 ≡ Some text) × ((more : List ℕ) × (text ≡ magic ++ more)) × IsReadingOf file_kind file_chunks text chunks end
-told_left texts name None last rest chunks end opened lost h = absurd (cc opened.1)
-told_left texts name (Some xs) None rest chunks end opened lost h = absurd lost
-told_left texts name (Some xs) (Some ys) rest chunks end opened lost h =
+told_left : (texts : Contents) (name : List ℕ) (left last : Option (List ℕ)) (rest : List ℕ) (chunks : List ChunkAt) (e : FileEnd)
+    → IsOpened (Some texts) (File name) 0 left → Consumes left last (magic ++ rest) → EndsSo (file_kind e) file_chunks (magic ++ rest) last chunks e
+    → (text : List ℕ) × (slice_get (texts (File name)) 0 ≡ Some text) × ((more : List ℕ) × (text ≡ magic ++ more)) × IsReadingOf file_kind file_chunks text chunks e
+told_left texts name None last rest chunks e opened lost h = absurd (cc opened.1)
+told_left texts name (Some xs) None rest chunks e opened lost h = absurd lost
+told_left texts name (Some xs) (Some ys) rest chunks e opened lost h =
     let is : xs ≡ opened.0 = cc opened.1 in (
       opened.0,
       opened.2,
       (rest ++ ys, sym is ∙ lost ∙ append_assoc magic rest ys),
-      reading_of file_chunks opened.0 (magic ++ rest) ys chunks end (sym is ∙ lost) file_kind h,
+      reading_of file_chunks opened.0 (magic ++ rest) ys chunks e (sym is ∙ lost) file_kind h,
     )
 
-told_of : (contents : Option Contents) (words : List (List ℕ)) (name : List ℕ) (left last : Option (List ℕ)) (rest : List ℕ) (chunks : List ChunkAt) (end : FileEnd)
-    → file_words words ≡ Ok name → IsOpened contents (File name) 0 left → Consumes left last (magic ++ rest) → EndsSo (file_kind end) file_chunks (magic ++ rest) last chunks end
-    → IsTold contents words chunks end
-told_of contents words name left last rest chunks end command opened lost h = λ texts told.
+told_of : (contents : Option Contents) (words : List (List ℕ)) (name : List ℕ) (left last : Option (List ℕ)) (rest : List ℕ) (chunks : List ChunkAt) (e : FileEnd)
+    → file_words words ≡ Ok name → IsOpened contents (File name) 0 left → Consumes left last (magic ++ rest) → EndsSo (file_kind e) file_chunks (magic ++ rest) last chunks e
+    → IsTold contents words chunks e
+told_of contents words name left last rest chunks e command opened lost h = λ texts told.
     let P : Option Contents → Type 0 = λ c. IsOpened c (File name) 0 left in
-    let k = told_left texts name left last rest chunks end (subst P told opened) lost h in
+    let k = told_left texts name left last rest chunks e (subst P told opened) lost h in
     (name, k.0, command, k.1, k.2, k.3)
 
 module _ {S M : Type 0} (left_of : S → Option (List ℕ)) (faults_of : S → ℕ) (mark_of : S → M) (reader : Reader ChunkAt FileEnd) (contents : Option Contents) (words : List (List ℕ)) (name : List ℕ) (first mid last : S)
@@ -61,11 +64,11 @@ module _ {S M : Type 0} (left_of : S → Option (List ℕ)) (faults_of : S → �
   show_of : IsShowOf left_of contents words first
   show_of = record { name = name; command = command; opened = opened }
 
-  pub file_of : (chunks : List ChunkAt) (end : FileEnd) → mark_of mid ≡ mark_of first → faults_of first ≤ faults_of mid → IsRead left_of faults_of mark_of file_kind reader mid last chunks end
-      → IsFileOf left_of faults_of mark_of contents words chunks end
-  file_of chunks end marked later read =
+  pub file_of : (chunks : List ChunkAt) (e : FileEnd) → mark_of mid ≡ mark_of first → faults_of first ≤ faults_of mid → IsRead left_of faults_of mark_of file_kind reader mid last chunks e
+      → IsFileOf left_of faults_of mark_of contents words chunks e
+  file_of chunks e marked later read =
       let lost = Consumes-trans (left_of first) (left_of mid) (left_of last) magic read.taken begun read.lost in
-      let ends = whole_ends reader all (file_kind end) read.taken (left_of last) chunks end read.ends in
+      let ends = whole_ends reader all (file_kind e) read.taken (left_of last) chunks e read.ends in
       record {
         first = first;
         last = last;
@@ -80,7 +83,7 @@ module _ {S M : Type 0} (left_of : S → Option (List ℕ)) (faults_of : S → �
         };
         rest = read.taken;
         begins = refl;
-        told = told_of contents words name (left_of first) (left_of last) read.taken chunks end command opened lost ends;
+        told = told_of contents words name (left_of first) (left_of last) read.taken chunks e command opened lost ends;
       }
 
   pub file_from : (taken : List ℕ) (lines : List (List ℕ)) → Consumes (left_of mid) (left_of last) taken → AreFirstLines reader taken lines → IsFileFrom left_of contents words lines
@@ -130,3 +133,40 @@ told_other left_of contents words o = λ texts told.
     let P : Option Contents → Type 0 = λ c. IsOpened c (File o.show.name) 0 (left_of o.first) in
     let k = not_magic_told texts o.show.name (left_of o.first) (left_of o.last) (subst P told o.show.opened) o.other in
     (o.show.name, k.0, o.show.command, k.1, k.2)
+
+-- ---- how it ended
+
+pub clean_end : (e : FileEnd) → end.Clean ≡ show_end e → 0 ≡ file_status e
+clean_end (file.End at) is = refl
+clean_end (file.Torn at left) is = absurd cc
+clean_end (file.Bad at why) is = absurd cc
+clean_end file.ReadFault is = absurd cc
+clean_end file.SizeLimit is = absurd cc
+
+pub torn_end : (e : FileEnd) → end.Torn ≡ show_end e → 1 ≡ file_status e
+torn_end (file.End at) is = absurd cc
+torn_end (file.Torn at left) is = refl
+torn_end (file.Bad at why) is = absurd cc
+torn_end file.ReadFault is = absurd cc
+torn_end file.SizeLimit is = absurd cc
+
+pub bad_end : (e : FileEnd) → end.Bad ≡ show_end e → 6 ≡ file_status e
+bad_end (file.End at) is = absurd cc
+bad_end (file.Torn at left) is = absurd cc
+bad_end (file.Bad at why) is = refl
+bad_end file.ReadFault is = absurd cc
+bad_end file.SizeLimit is = absurd cc
+
+pub read_end : (e : FileEnd) → end.ReadFault ≡ show_end e → e ≡ file.ReadFault
+read_end (file.End at) is = absurd cc
+read_end (file.Torn at left) is = absurd cc
+read_end (file.Bad at why) is = absurd cc
+read_end file.ReadFault is = refl
+read_end file.SizeLimit is = absurd cc
+
+pub limit_end : (e : FileEnd) → end.SizeLimit ≡ show_end e → e ≡ file.SizeLimit
+limit_end (file.End at) is = absurd cc
+limit_end (file.Torn at left) is = absurd cc
+limit_end (file.Bad at why) is = absurd cc
+limit_end file.ReadFault is = absurd cc
+limit_end file.SizeLimit is = refl

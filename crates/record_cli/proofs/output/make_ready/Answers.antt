@@ -1,13 +1,12 @@
 use Rattle.std.specs.Prelude.{string_bytes}
 use Rattle.std.specs.Fmt.{decimal}
-use Rattle.std.proofs.Common.{List, ℕ, [], ◌∷◌, ◌++◌, codes, length, subst, ap, ◌∙◌, sym}
+use Rattle.std.proofs.Common.{List, ℕ, [], ◌∷◌, ◌++◌, codes, length, subst, ap, ◌∙◌}
 use Rattle.chunk_grammar.specs.Chunk.{IsFileText, least_file_text}
 use Rattle.recording_model.specs.declared.stream.StreamDoc.{StreamDoc}
 use Rattle.recording_model.specs.Batch.{one_batch}
 use Rattle.recording_model.specs.Recording.{IsRecording}
 use Rattle.record_cli.specs.Feed.{int16_shape}
 use Rattle.record_cli.specs.Recorded.{recorded_line}
-use Rattle.chunk_grammar.specs.declared.chunk.Chunk.{Chunk}
 use Rattle.record_cli.proofs.Samples.{texts_short, stream_short}
 use Rattle.record_cli.proofs.output.make_ready.Goals as goal
 
