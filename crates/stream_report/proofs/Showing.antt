@@ -1,15 +1,15 @@
 -- Chunks, one after the other, and their lines.
-use Rattle.std.proofs.Common.{◌≡◌, ℕ, ◌+◌, ◌*◌, ◌<◌, ◌≤◌, false, List, [], ◌∷◌, ◌++◌, length, take, drop, Option, refl, sym, ap, ◌∙◌, subst, append_assoc, take-append-drop, arith}
+use Rattle.std.proofs.Common.{◌≡◌, ℕ, ◌+◌, ◌*◌, ◌≤◌, false, List, [], ◌∷◌, ◌++◌, length, take, drop, Option, refl, sym, ap, ◌∙◌, subst, append_assoc, take-append-drop, arith}
 use Rattle.std.proofs.lemmas.List.{append-nil, length-append}
 use Rattle.std.proofs.lemmas.Grind.{flat_map-append}
-use Rattle.std.specs.Io.KnownBytes.{Appends, Consumes}
-use Rattle.std.proofs.KnownBytes.{Appends-nil, Appends-trans, Consumes-trans}
+use Rattle.std.specs.Io.KnownBytes.{Appends}
+use Rattle.std.proofs.KnownBytes.{Appends-nil, Appends-trans}
 use Rattle.byteorder.specs.Endian.{little_bytes}
 use Rattle.rec_base.specs.Known.{AppendsFront, printed_line}
-use Rattle.reading_model.specs.Outlook.{How, All, Outlook, item, end, nothing, Answered}
+use Rattle.reading_model.specs.Outlook.{How, Outlook, item, Answered}
 use Rattle.reading_model.specs.Read.{Reader}
-use Rattle.piece_reader.specs.Steps.{Begun, behind}
-use Rattle.piece_reader.proofs.Collecting.{begun_item, begun_nothing}
+use Rattle.piece_reader.specs.Steps.{Begun}
+use Rattle.piece_reader.proofs.Collecting.{begun_item}
 use Rattle.piece_reader.proofs.Ending.{fresh, begun_fresh}
 use Rattle.xdf_model_laws.proofs.Bytes.{length-little_bytes}
 use Rattle.chunk_grammar.specs.declared.chunk.Chunk.{Chunk as ChunkValue}

@@ -1,4 +1,4 @@
-use Rattle.std.proofs.Common.{refl, sym, ap, ◌∙◌, subst, inl, inr, arith, ◌≡◌, ℕ, List, [], ◌∷◌, ◌++◌, take, Option, Err}
+use Rattle.std.proofs.Common.{refl, sym, ap, ◌∙◌, subst, inl, inr, arith, ℕ, List, [], ◌∷◌, ◌++◌, take, Err}
 use Rattle.std.specs.Io.KnownBytes.{Appends}
 use Rattle.std.proofs.KnownBytes.{Appends-trans}
 use Rattle.file_model.specs.declared.end.FileEnd.TheVariants as end

@@ -1,5 +1,4 @@
 use Rattle.std.proofs.Common.{◌≡◌, ◌≤◌, ◌-◌}
-use Rattle.rec_base.specs.Causes.{Rose}
 use Rattle.file_reader.specs.FileInlet.{outlook}
 use Rattle.stream_report.proofs.Showing.{ShownSo}
 use Rattle.stream_report.proofs.file.show_file.Given as goal
