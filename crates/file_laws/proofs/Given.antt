@@ -1,8 +1,8 @@
 -- What a reader gives of a whole file is the file's readings.
-use Rattle.std.proofs.Common.{◌≡◌, ℕ, zero, suc, ◌+◌, ◌-◌, ◌<◌, ◌≤◌, Bool, true, false, cond, ltb, List, [], ◌∷◌, ◌++◌, length, take, drop, refl, sym, ap, ◌∙◌, append_assoc, arith, inl, inr, subst, Option, Some}
+use Rattle.std.proofs.Common.{◌≡◌, ℕ, zero, suc, ◌+◌, ◌-◌, ◌<◌, ◌≤◌, Bool, true, false, cond, ltb, List, [], ◌∷◌, ◌++◌, length, take, drop, refl, sym, ap, ◌∙◌, append_assoc, arith, inl, inr, subst}
 use Rattle.std.proofs.lemmas.Bool.{cases_lt, le-ltb, lt-ltb}
 use Rattle.std.proofs.lemmas.List.{length-append, length-take, length-drop, take-append-drop}
-use Rattle.reading_model.specs.Outlook.{How, ended, over, All, Outlook, IsCollected, at_fault}
+use Rattle.reading_model.specs.Outlook.{How, ended, over, All}
 use Rattle.reading_model.specs.Rules.{by_front, all_by}
 use Rattle.xdf_model_laws.proofs.Bytes.{IsBytes, IsBytes-rest, IsBytes-take}
 use Rattle.chunk_grammar.specs.declared.chunk.Chunk.{Chunk as ChunkValue}
@@ -13,7 +13,7 @@ use Rattle.file_model.specs.declared.end.FileEnd.{FileEnd}
 use Rattle.file_model.specs.declared.next.Next.{Next}
 use Rattle.file_model.specs.declared.next.Next.TheVariants.{Chunk}
 use Rattle.file_model.specs.Readings.{placed, last_reading, AreReadings}
-use Rattle.file_model.specs.Reader.{FileState, ChunkAt, behind_chunk, by_standing, end_reading, file_counted, file_end, file_kind, file_rules, file_within, readings_of}
+use Rattle.file_model.specs.Reader.{FileState, ChunkAt, behind_chunk, by_standing, end_reading, file_end, file_rules, file_within, readings_of}
 use Rattle.file_laws.proofs.Cuts.{take_within}
 use Rattle.file_laws.proofs.Fronts.{text_takes}
 
@@ -118,11 +118,3 @@ given_readings limit y h low =
       all = same_flag (readings_of (file_within limit y)) (placed [] k.cs k.text k.chunks 4) (λ f. last_reading f (4 + length k.text) k.rest (standing_at (context_after_all [] k.cs) k.rest))
           (ltb (limit - 4) (length y)) (ltb limit (length (magic ++ y))) (more_than_counts limit y low) k.same;
     }
-
--- what was collected of a reader that has gone past the magic
-pub collected_readings : (limit : ℕ) (y : List ℕ) (old : Outlook ChunkAt FileEnd) (left : Option (List ℕ)) (items : List ChunkAt) (e : FileEnd) → IsBytes y → 4 ≤ limit
-    → ((more : List ℕ) (how : How) → old.coming more how ≡ file_counted (limit - 4) more how) → IsCollected file_kind old (Some y) left items e → (file_kind e ≡ at_fault → ⊥)
-    → AreReadings (magic ++ y) limit (readings_of (items, e))
-collected_readings limit y old left items e h low all k sound =
-    let same : file_within limit y ≡ (items, e) = sym (all y ended) ∙ k.whole sound in
-    subst (λ (x : All ChunkAt FileEnd). AreReadings (magic ++ y) limit (readings_of x)) same (given_readings limit y h low)

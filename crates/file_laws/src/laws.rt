@@ -9,9 +9,7 @@ ghost use Rattle.file_model.specs.declared.next.Next.{Next};
 ghost use Rattle.file_model.specs.declared.next.Next.TheVariants.{End};
 ghost use Rattle.file_model.specs.Cut.{chunks_within, IsEndOrTorn};
 ghost use Rattle.file_model.specs.Readings.{placed, AreReadings};
-ghost use Rattle.file_model.specs.declared.end.FileEnd.{FileEnd};
-ghost use Rattle.file_model.specs.Reader.{ChunkAt, file_counted, file_kind, file_within, readings_of};
-ghost use Rattle.reading_model.specs.Outlook.{How, Outlook, IsCollected, at_fault};
+ghost use Rattle.file_model.specs.Reader.{file_within, readings_of};
 
 /// A file that begins with the magic has whole chunks at its front, none or more, and a rest behind
 /// them.
@@ -77,14 +75,4 @@ pub fn answers_stand_within()
 pub fn readings_are_those_of_a_reader()
     ensures { (limit : ℕ) (y : List ℕ) → ((i : ℕ) → slice_index y i < 256) → 4 ≤ limit
         → AreReadings (magic ++ y) limit (readings_of (file_within limit y)) }
-{}
-
-/// Whoever collects the answers of a reader that has gone past the magic, to an end that is no failed
-/// read, has what the file holds for one who reads it.
-pub fn collected_answers_are_readings()
-    ensures { (limit : ℕ) (y : List ℕ) (old : Outlook ChunkAt FileEnd) (left : Option (List ℕ)) (items : List ChunkAt) (e : FileEnd)
-        → ((i : ℕ) → slice_index y i < 256) → 4 ≤ limit
-        → ((more : List ℕ) (how : How) → old.coming more how ≡ file_counted (limit - 4) more how)
-        → IsCollected file_kind old (Some y) left items e → (file_kind e ≡ at_fault → ⊥)
-        → AreReadings (magic ++ y) limit (readings_of (items, e)) }
 {}

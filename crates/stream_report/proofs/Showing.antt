@@ -109,7 +109,7 @@ first_lines reader now a b items k = λ more how.
     let ending : List (List ℕ) = end_lines (length (items ++ rest.0)) rest.1 in (
       lines_of_chunks (context_behind [] items) rest.0 ++ ending,
       ap show_lines (k.same more how) ∙ ap (λ (l : List (List ℕ)). l ++ ending) (lines_more [] items rest.0)
-      ∙ append_assoc (lines_of_chunks [] items) (lines_of_chunks (context_behind [] items) rest.0) ending,
+          ∙ append_assoc (lines_of_chunks [] items) (lines_of_chunks (context_behind [] items) rest.0) ending,
     )
 
 -- some of the first lines are first lines

@@ -56,12 +56,7 @@ fn end_line(alloc: Global, count: u64, end: FileEnd) -> Result<Option<String>, M
 }
 
 // Says the last line, where there is one.
-fn say_end<L: Lines>(
-    alloc: Global,
-    lines: &mut L,
-    count: u64,
-    end: FileEnd,
-) -> Result<(), SayFault>
+fn say_end<L: Lines>(alloc: Global, lines: &mut L, count: u64, end: FileEnd) -> Result<(), SayFault>
     ensures said { OnOk result (Appends (L.printed lines.old) (L.printed lines.new) (printed_lines (end_lines count end))) }
     ensures print { IsErrOf result SayFault.Print → AppendsFront (L.printed lines.old) (L.printed lines.new) (printed_lines (end_lines count end))
         × Rose (L.print_faults lines.old) (L.print_faults lines.new) }
