@@ -192,3 +192,10 @@ fn a_boundary_is_said_or_not(rt: HostRuntime) -> Result<(), Fail> {
     assert_eq!(rt; text.as_str(), "a line can't be said");
     Ok(())
 }
+
+#[test]
+fn reasons_are_numbered_from_one(rt: HostRuntime) {
+    assert_eq!(rt; why_number(xdf_model::Why::BadWidth), 1);
+    assert_eq!(rt; why_number(xdf_model::Why::NoShape), 7);
+    assert_eq!(rt; why_number(xdf_model::Why::BadBoundary), 11);
+}
