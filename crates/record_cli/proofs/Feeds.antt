@@ -5,9 +5,9 @@ use Rattle.std.proofs.lemmas.List.{length-append}
 use Rattle.std.specs.Io.KnownBytes.{Consumes}
 use Rattle.rec_base.specs.Contents.{Contents, IsOpened}
 use Rattle.rec_base.specs.declared.name.Name.{Name}
-use Rattle.reading_model.specs.Outlook.{How, ended, at_fault, All, Outlook}
+use Rattle.reading_model.specs.Outlook.{ended, at_fault, All, Outlook}
 use Rattle.reading_model.specs.Read.{EndsSo, IsReadingOf}
-use Rattle.piece_reader.specs.Steps.{Begun, behind}
+use Rattle.piece_reader.specs.Steps.{Begun}
 use Rattle.piece_reader.proofs.Ending.{fresh, reading_of}
 use Rattle.xdf_model.specs.Sample.{Sample}
 use Rattle.inlet_model.specs.declared.end.FeedEnd.{FeedEnd}

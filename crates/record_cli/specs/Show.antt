@@ -1,5 +1,5 @@
 -- What `show` says of a file. This project's own.
-use Rattle.std.specs.Prelude.{◌≡◌, ◌≢◌, ℕ, Bool, ◌==◌, ◌||◌, List, [], ◌∷◌, ◌++◌, drop, Option, Some, slice_get, Result, Ok, Err, cond, codes}
+use Rattle.std.specs.Prelude.{◌≡◌, ◌≢◌, ℕ, Bool, ◌==◌, ◌||◌, List, ◌++◌, drop, Option, Some, slice_get, Result, Ok, Err, cond, codes}
 use Rattle.std.specs.Io.KnownBytes.{Consumes}
 use Rattle.std.specs.Fmt.{decimal}
 use Rattle.rec_base.specs.declared.name.Name.TheVariants.{File}

@@ -84,7 +84,7 @@ fn a_file_is_shown_up_to_where_it_is_cut(rt: HostRuntime) -> Result<(), Fail> {
     let whole = joined(rt.alloc(), &[HEADERS, SAMPLES, FOOTERS])?;
     for (cut, status, lines, last) in [
         (546, 0, CHUNK_LINES, LAST_LINE),
-        (357, 10, HEADER_LINES, "fault 10\n"),
+        (357, 1, HEADER_LINES, "torn 339 left 18\n"),
         (339, 0, HEADER_LINES, "end 339 chunks 3\n"),
         (4, 0, "", "end 4 chunks 0\n"),
         (3, 3, "", "fault 3\n"),
@@ -117,36 +117,51 @@ fn a_length_may_be_wide(rt: HostRuntime) -> Result<(), Fail> {
     Ok(())
 }
 
-#[test]
-fn a_place_of_another_form_ends_the_lines(rt: HostRuntime) -> Result<(), Fail> {
-    for (place, behind) in [
-        (
-            "a boundary",
-            b"\x01\x12\x05\0\x43\xA5\x46\xDC\xCB\xF5\x41\x0F\xB3\x0E\xD5\x46\x73\x83\xCB\xE4".as_slice(),
-        ),
-        (
-            "another document",
-            b"\x01\x59\x02\0\x02\0\0\0<info><channel_count>2</channel_count><channel_format>int16</channel_format></info>".as_slice(),
-        ),
-        ("no width", b"\x02\x02\0\x01\0".as_slice()),
-    ] {
-        let bytes = joined(rt.alloc(), &[HEADERS, behind, FOOTERS])?;
-        let lines = [HEADER_LINES, "fault 10\n"];
-        assert!(rt;
-            shows(rt.alloc(), SHOW, &bytes, NONE, 10, &lines)?,
-            "{place}"
-        );
-    }
-    Ok(())
-}
+// The file of one sample in two channels with a stamp and one without, in a wide Samples chunk.
+const TWO_CHANNELS: &[u8] =
+    b"XDF:\x01\x59\x02\0\x01\0\0\0<info><channel_count>2</channel_count><channel_format>int16</channel_format></info>\x01\x1D\x03\0\x01\0\0\0\x04\x02\0\0\0\x08\0\0\0\0\0\0\xF0\x3F\x01\0\xFF\xFF\0\x02\0\0\x80";
+
+// A header twice.
+const REPEATED: &[u8] =
+    b"XDF:\x01\x59\x02\0\x01\0\0\0<info><channel_count>1</channel_count><channel_format>int16</channel_format></info>\x01\x59\x02\0\x01\0\0\0<info><channel_count>1</channel_count><channel_format>int16</channel_format></info>";
+
+// A clock offset, and a boundary behind it.
+const OFFSET: &[u8] =
+    b"XDF:\x01\x16\x04\0\x07\0\0\0\0\0\0\0\0\0\xF0\x3F\0\0\0\0\0\0\0\0\x01\x12\x05\0\x43\xA5\x46\xDC\xCB\xF5\x41\x0F\xB3\x0E\xD5\x46\x73\x83\xCB\xE4";
 
 #[test]
-fn the_most_bytes_are_1048576(rt: HostRuntime) -> Result<(), Fail> {
-    // Zeros are no magic, but the length comes first.
-    for (size, status, printed) in [(1_048_576, 3, "fault 3\n"), (1_048_577, 10, "fault 10\n")] {
-        let bytes = vec![in rt.alloc(); 0u8; size]?;
-        let as_told = shows(rt.alloc(), SHOW, &bytes, NONE, status, &[printed])?;
-        assert!(rt; as_told, "{size} bytes");
+fn files_of_others_are_shown_to_their_end_or_their_fault(rt: HostRuntime) -> Result<(), Fail> {
+    for (bytes, status, printed) in [
+        (
+            TWO_CHANNELS,
+            0,
+            "4 stream-header id 1 channels 2 format int16 bytes 83\n95 samples id 1 count 2\n  3ff0000000000000 1 -1\n  none 2 -32768\nend 126 chunks 2\n",
+        ),
+        (
+            REPEATED,
+            6,
+            "4 stream-header id 1 channels 1 format int16 bytes 83\nbad 99 why 6\n",
+        ),
+        (
+            OFFSET,
+            0,
+            "4 clock-offset id 7 time 3ff0000000000000 offset 0000000000000000\n28 boundary\nend 48 chunks 2\n",
+        ),
+        (
+            b"XDF:\x01\x0B\x03\0\x01\0\0\0\x01\x01\0\x05\0".as_slice(),
+            6,
+            "bad 8 why 5\n",
+        ),
+        (
+            b"XDF:\x01\x03\x09\0\x41".as_slice(),
+            0,
+            "4 other tag 9 bytes 1\nend 9 chunks 1\n",
+        ),
+        (b"XDF:\x04\x01\0\0\x04\x01\0".as_slice(), 6, "bad 4 why 3\n"),
+        (b"XDF:\x04\0\0\0\x04\x01\0".as_slice(), 1, "torn 4 left 7\n"),
+    ] {
+        let as_told = shows(rt.alloc(), SHOW, bytes, NONE, status, &[printed])?;
+        assert!(rt; as_told, "{printed}");
     }
     Ok(())
 }
@@ -164,7 +179,6 @@ fn each_fault_of_a_show_has_its_status_and_line(rt: HostRuntime) -> Result<(), F
         (["show"].as_slice(), NONE, 2, "fault 2 usage 3\n"),
         (["show", "a", "b"].as_slice(), NONE, 2, "fault 2 usage 3\n"),
         (["show", "x"].as_slice(), NONE, 4, "fault 4\n"),
-        (["show", "torn"].as_slice(), NONE, 4, "fault 4\n"),
         (SHOW, opening, 4, "fault 4\n"),
         (SHOW, first_say, 8, ""),
         (SHOW, second_say, 8, "4 file-header bytes 56\n"),
@@ -172,6 +186,10 @@ fn each_fault_of_a_show_has_its_status_and_line(rt: HostRuntime) -> Result<(), F
     ] {
         assert!(rt; shows(rt.alloc(), words, &whole, fails, status, &[printed])?);
     }
+    // Behind the headers a read fails.
+    let torn = ["show", "torn"].as_slice();
+    let lines = [HEADER_LINES, "fault 4\n"];
+    assert!(rt; shows(rt.alloc(), torn, &whole, NONE, 4, &lines)?);
     Ok(())
 }
 

@@ -1,4 +1,4 @@
-use Rattle.std.proofs.Common.{refl, ap, ◌∙◌, subst, arith, ◌≡◌, [], ◌∷◌, length}
+use Rattle.std.proofs.Common.{List, refl, sym, ap, ◌∙◌, subst, arith, ◌≡◌, [], ◌∷◌, length}
 use Rattle.std.proofs.lemmas.List.{length-append}
 use Rattle.xdf_model.specs.declared.types.Shape.{Shape}
 use Rattle.xdf_model.specs.Sample.{Sample, FitsShape}
@@ -50,7 +50,7 @@ loop-preserved g c =
     let i = c.loop.invariant in
     let s = c.in-Sample.sample in
     let P : Shape → Type 0 = λ shape. FitsShape shape s in
-    let B : List Sample → Type 0 = λ l. Begun (fresh int16_feed) (outlook c.next.new.self.inlet) _ _ l in
+    let B : List Sample → Type 0 = λ l. Begun (fresh int16_feed) (outlook c.next.new.self.inlet) (g.S.Source.left c.args.source) (g.S.Source.left c.next.new.self.source) l in
     record {
       begun = subst B (sym c.in_ok-push-in-Sample.ensures.ok) (begun_item feed_kind (fresh int16_feed) (outlook c.loop.reader.inlet) (outlook c.next.new.self.inlet) _ _ _ c.loop.samples s i.begun c.in-Sample.ensures.answer);
       shape = c.in-Sample.ensures.same_shape.0 ∙ i.shape;
