@@ -1,2 +1,10 @@
 pub mod Spelled
 pub mod OneBatch
+pub mod Fronts
+pub mod Layouts
+pub mod Writing
+pub mod Counting
+pub mod Ordering
+pub mod Contexts
+pub mod Groups
+pub mod Steps

@@ -6,11 +6,20 @@
 //! reads such a file again.
 #![tactic(auto)]
 
+mod desk;
 mod documents;
+mod enter;
 mod file_text;
+mod piece;
+mod place;
+mod put;
 mod recording;
+mod written;
 
+pub use desk::Desk;
 pub use documents::LEDGER_DOCUMENT;
 pub use file_text::follow;
+pub use place::Place;
 pub use recording::{RecordingText, recording_text};
 pub use recording_model::StreamDoc;
+pub use written::Written;
