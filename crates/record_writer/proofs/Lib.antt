@@ -8,3 +8,5 @@ pub mod Ordering
 pub mod Contexts
 pub mod Groups
 pub mod Steps
+pub mod Files
+pub mod Puts

@@ -65,7 +65,7 @@ spot_shape streams gs ps pending places p x s a has is =
 
 module _ (streams : List StreamDoc) (base held : Option (List ℕ)) (d : DeskState) (batches : List Batch) (b : Batch) (o : IsOpen streams base held d batches b) (x : Place)
     (has : slice_get d.places d.place ≡ Some x) where
-  abbrev last_piece : ChunkSamples
+  abbrev pub last_piece : ChunkSamples
   last_piece = record { id = o.divides.stream.id; samples = samples_in o.divides.last }
 
   has_at : slice_get d.places b.place ≡ Some x
@@ -93,7 +93,7 @@ module _ (streams : List StreamDoc) (base held : Option (List ℕ)) (d : DeskSta
       let high = (stream_at streams b.place s o.ready.are o.divides.is_stream).high in
       piece_spelled (body_context streams) s.id s.shape (samples_in o.divides.last) (omega (arith, high)) known_here o.divides.fits (omega (arith, few, counted)) o.divides.short
 
-  rows_are : with_rows streams [] (o.divides.groups ++ (o.divides.full ++ o.divides.last ∷ [])) ≡ chunks_before streams batches b o.divides ++ last_piece ∷ []
+  pub rows_are : with_rows streams [] (o.divides.groups ++ (o.divides.full ++ o.divides.last ∷ [])) ≡ chunks_before streams batches b o.divides ++ last_piece ∷ []
   rows_are = rows_all streams o.divides.groups o.divides.full o.divides.last b.place o.divides.stream o.divides.is_stream o.divides.at
 
   some_open : eqb d.count 0 ≡ false
@@ -162,19 +162,19 @@ module _ (streams : List StreamDoc) (base held : Option (List ℕ)) (d : DeskSta
 
 -- ---- a group begins
 
-gap_none : (d : DeskState) (x : Place) (position : ℕ) → next_of x ≡ position → gapped d x position ≡ d
+pub gap_none : (d : DeskState) (x : Place) (position : ℕ) → next_of x ≡ position → gapped d x position ≡ d
 gap_none d x position e = let test : eqb (next_of x) position ≡ true = eq-eqb (next_of x) position e in rw test refl
 
-gap_text_none : (d : DeskState) (x : Place) (position : ℕ) → next_of x ≡ position → gap_text d x position ≡ []
+pub gap_text_none : (d : DeskState) (x : Place) (position : ℕ) → next_of x ≡ position → gap_text d x position ≡ []
 gap_text_none d x position e = let test : eqb (next_of x) position ≡ true = eq-eqb (next_of x) position e in rw test refl
 
 gap_some : (d : DeskState) (x : Place) (position : ℕ) → next_of x ≢ position → gapped d x position ≡ with_piece d (length (missing_text x position))
 gap_some d x position e = let test : eqb (next_of x) position ≡ false = ne_eqb (next_of x) position e in rw test refl
 
-gap_text_some : (d : DeskState) (x : Place) (position : ℕ) → next_of x ≢ position → gap_text d x position ≡ with_boundary d.since (missing_text x position)
+pub gap_text_some : (d : DeskState) (x : Place) (position : ℕ) → next_of x ≢ position → gap_text d x position ≡ with_boundary d.since (missing_text x position)
 gap_text_some d x position e = let test : eqb (next_of x) position ≡ false = ne_eqb (next_of x) position e in rw test refl
 
-abbrev missing_row : ℕ → ℕ → ℕ → Row
+abbrev pub missing_row : ℕ → ℕ → ℕ → Row
 missing_row id next position = record { stream = id; first = next; count = position - next }
 
 row_some : (id next first : ℕ) → next ≢ first → row_before id next first ≡ row_chunk (missing_row id next first) ∷ []
