@@ -10,3 +10,4 @@ pub mod Groups
 pub mod Steps
 pub mod Files
 pub mod Puts
+pub mod Spots

@@ -1,5 +1,5 @@
 -- What is true of a desk's fields at all times.
-use Rattle.std.specs.Prelude.{◌≡◌, ℕ, ◌^◌, ◌<◌, ◌≤◌, List, length, Some, slice_get, vec_capacity}
+use Rattle.std.specs.Prelude.{◌≡◌, ℕ, ◌^◌, ◌<◌, ◌≤◌, List, [], length, Some, slice_get, vec_capacity}
 use Rattle.record_writer.specs.declared.place.Place.{Place}
 use Rattle.record_writer.specs.Desk.{IsFinePlace}
 use Rattle.record_writer.specs.declared.desk.Desk.TheInside.{Inside}
@@ -14,6 +14,7 @@ pub record IsFine (d : Inside) : Type 0 where
   pub room : 1_048_576 ≤ d.room
   pub texts : length d.texts.items < 2 ^ 26
   pub count : d.count ≤ length d.texts.items
+  pub empty : d.count ≡ 0 → d.texts.items ≡ []
   pub since : d.since < 2 ^ 40
   pub head : 24 ≤ vec_capacity d.head
   pub row : 25 ≤ vec_capacity d.row

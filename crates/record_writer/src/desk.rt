@@ -1,6 +1,6 @@
 //! What a writer keeps beside its sink, and the steps of a recording on it.
 
-ghost use Rattle.std.specs.Prelude.{◌≡◌, ◌≤◌, ◌<◌, ◌+◌, ◌^◌, OnOk, OnErr, Some, slice_get, length, max, true};
+ghost use Rattle.std.specs.Prelude.{◌≡◌, ◌≤◌, ◌<◌, ◌+◌, ◌^◌, [], OnOk, OnErr, Some, slice_get, length, max, true};
 ghost use Rattle.std.specs.Io.KnownBytes.{Appends};
 ghost use Rattle.rec_base.specs.Causes.{HasCause};
 ghost use Rattle.rec_base.specs.Known.{AppendsFront};
@@ -83,6 +83,8 @@ impl Desk {
         ensures ok { (x : PlaceValue) → slice_get self.old.places self.old.place ≡ Some x → OnOk result (self.new ≡ ended self.old x) }
         ensures written { (x : PlaceValue) → slice_get self.old.places self.old.place ≡ Some x
             → OnOk result (Appends (K.held sink.old) (K.held sink.new) (ended_text self.old x)) }
+        ensures empty { OnOk result ((self.new.count ≡ 0) × (self.new.texts ≡ [])) }
+        ensures stays { OnOk result ((self.new.places ≡ self.old.places) × (self.new.room ≡ self.old.room) × (self.new.broken ≡ self.old.broken)) }
         ensures err { OnErr result (self.new ≡ record self.old { broken = true }) }
         ensures front { (x : PlaceValue) → slice_get self.old.places self.old.place ≡ Some x
             → AppendsFront (K.held sink.old) (K.held sink.new) (ended_text self.old x) }
@@ -152,6 +154,8 @@ impl Desk {
         ensures ok { (x : PlaceValue) → slice_get self.old.places place ≡ Some x → OnOk result (self.new ≡ gapped self.old x position) }
         ensures written { (x : PlaceValue) → slice_get self.old.places place ≡ Some x
             → OnOk result (Appends (K.held sink.old) (K.held sink.new) (gap_text self.old x position)) }
+        ensures stays { OnOk result ((self.new.places ≡ self.old.places) × (self.new.room ≡ self.old.room) × (self.new.broken ≡ self.old.broken)
+            × (self.new.texts ≡ self.old.texts)) }
         ensures err { OnErr result (self.new ≡ record self.old { broken = true }) }
         ensures front { (x : PlaceValue) → slice_get self.old.places place ≡ Some x
             → AppendsFront (K.held sink.old) (K.held sink.new) (gap_text self.old x position) }
@@ -173,7 +177,8 @@ impl Desk {
         requires some { 1 ≤ length text.now }
         requires small { length self.old.texts + length text.now < 2 ^ 26 }
         requires room { length self.old.texts + length text.now ≤ self.old.room }
-        ensures { (x : PlaceValue) → slice_get self.old.places place ≡ Some x → self.new ≡ joined self.old place x position text.now }
+        ensures joined { (x : PlaceValue) → slice_get self.old.places place ≡ Some x → self.new ≡ joined self.old place x position text.now }
+        ensures begun { (1 ≤ self.new.count) × (self.new.place ≡ place) × (self.new.broken ≡ self.old.broken) }
     {
         let spot = enter(&self.places[place], position);
         put_bytes(text, &mut self.texts);

@@ -9,6 +9,7 @@
 mod desk;
 mod documents;
 mod enter;
+mod entry;
 mod file_text;
 mod piece;
 mod place;
