@@ -11,3 +11,5 @@ pub mod Steps
 pub mod Files
 pub mod Puts
 pub mod Spots
+pub mod FooterTexts
+pub mod Heads

@@ -1,6 +1,7 @@
 -- What a writer keeps beside its sink, and what its steps make of it.
 use Rattle.std.specs.Prelude.{◌≡◌, ℕ, ◌+◌, ◌-◌, ◌^◌, ◌<◌, ◌≤◌, ◌==◌, ◌⊎◌, nat_lt, nat_le, ◌&&◌, Bool, true, false, min, max, List, [], ◌∷◌, ◌++◌, length, map, sum_by, Option, Some, None, slice_get, slice_set, if◌then◌else◌}
 use Rattle.xdf_model.specs.declared.types.Shape.{Shape}
+use Rattle.recording_model.specs.declared.stream.StreamDoc.{StreamDoc}
 use Rattle.recording_model.specs.Batch.{group_limit}
 use Rattle.record_writer.specs.declared.place.Place.{Place}
 use Rattle.record_writer.specs.Texts.{raw_text, row_text, with_boundary, due_text, due_since, due_chunks, footer_text, stream_footers}
@@ -93,4 +94,23 @@ joined d place x position text = record d {
   place = place;
   count = d.count + 1;
   texts = d.texts ++ text;
+}
+
+-- nothing was put to a stream yet
+abbrev pub new_place : StreamDoc → Place
+new_place s = record { id = s.id; shape = s.shape; kept = 0; lost = 0; rows = 0 }
+
+-- the desk of a recording of which nothing was written
+abbrev pub new_desk : List Place → List ℕ → ℕ → DeskState
+new_desk places front chunks = record {
+  places = places;
+  front = front;
+  place = 0;
+  count = 0;
+  texts = [];
+  room = group_limit;
+  since = length front;
+  bytes = length front;
+  chunks = chunks;
+  broken = false;
 }

@@ -17,4 +17,4 @@ pub record IsFine (d : Inside) : Type 0 where
   pub empty : d.count ≡ 0 → d.texts.items ≡ []
   pub since : d.since < 2 ^ 40
   pub head : 24 ≤ vec_capacity d.head
-  pub row : 25 ≤ vec_capacity d.row
+  pub row : 160 ≤ vec_capacity d.row

@@ -1,6 +1,6 @@
 //! What a writer keeps beside its sink, and the steps of a recording on it.
 
-ghost use Rattle.std.specs.Prelude.{◌≡◌, ◌≤◌, ◌<◌, ◌+◌, ◌^◌, [], OnOk, OnErr, Some, slice_get, length, max, true};
+ghost use Rattle.std.specs.Prelude.{◌≡◌, ◌≤◌, ◌<◌, ◌+◌, ◌^◌, [], ℕ, OnOk, OnErr, IfOk, Some, vec_capacity, slice_get, length, max, true};
 ghost use Rattle.std.specs.Io.KnownBytes.{Appends};
 ghost use Rattle.rec_base.specs.Causes.{HasCause};
 ghost use Rattle.rec_base.specs.Known.{AppendsFront};
@@ -11,7 +11,11 @@ use crate::piece::write_piece;
 use crate::place::Place;
 use crate::put::{put_bytes, put_row};
 use rec_base::{Failed, Memory, Sink};
+use std::alloc::Global;
 use std::marker::Model;
+
+// The room of the open group, and so the most bytes that the texts of several samples have.
+const GROUP_ROOM: usize = 1_048_576;
 
 /// What a writer keeps beside its sink: the streams, the open group, and what was written.
 ///
@@ -46,8 +50,42 @@ impl Model for Desk {
 }
 
 impl Desk {
-    ghost use Rattle.record_writer.specs.Desk.{with_piece, ended, ended_text, gapped, gap_text, missing_text, joined, next_of};
+    ghost use Rattle.record_writer.specs.Desk.{with_piece, ended, ended_text, gapped, gap_text, missing_text, joined, next_of, new_desk, IsFinePlace};
     ghost use Rattle.record_writer.specs.Texts.{with_boundary};
+
+    // The desk of a recording of which nothing was written: its streams, to which nothing was put, and
+    // the text and the number of chunks of the file's front, in whose memory the footers have room.
+    pub(crate) fn new(
+        alloc: Global,
+        places: Vec<Place>,
+        front: Vec<u8>,
+        chunks: u64,
+    ) -> Result<Desk, Memory>
+        requires some { 1 ≤ length places.items }
+        requires few { length places.items ≤ 64 }
+        requires new { (p : ℕ) (x : PlaceValue) → slice_get places.items p ≡ Some x → IsFinePlace x }
+        requires footers { 10_400 ≤ vec_capacity front }
+        requires short { length front.items < 2 ^ 40 }
+        ensures { IfOk result (λ d. d ≡ new_desk places.items front.items chunks) }
+    {
+        let texts = Vec::with_capacity(alloc, GROUP_ROOM)?;
+        let head = Vec::with_capacity(alloc, 24)?;
+        let row = Vec::with_capacity(alloc, 160)?;
+        Ok(Desk {
+            since: front.len() as u64,
+            bytes: front.len() as u64,
+            places,
+            front,
+            place: 0,
+            count: 0,
+            texts,
+            room: GROUP_ROOM,
+            chunks,
+            broken: false,
+            head,
+            row,
+        })
+    }
 
     // Counts a Samples chunk of so many bytes, and the boundary that is due behind it.
     pub(crate) fn count_piece(&mut self, size: u64)

@@ -8,19 +8,25 @@
 
 mod desk;
 mod documents;
+mod ends;
 mod enter;
 mod entry;
+mod fault;
 mod file_text;
+mod footers;
 mod piece;
 mod place;
 mod put;
 mod recording;
+mod room;
 mod written;
 
 pub use desk::Desk;
 pub use documents::LEDGER_DOCUMENT;
+pub use fault::WriterFault;
 pub use file_text::follow;
 pub use place::Place;
 pub use recording::{RecordingText, recording_text};
 pub use recording_model::StreamDoc;
+pub use room::WriterRoom;
 pub use written::Written;
