@@ -126,13 +126,6 @@ pub map_length : (streams : List StreamDoc) → length (map new_place streams) �
 map_length [] = refl
 map_length (s ∷ streams) = ap suc (map_length streams)
 
-pub headers_length : (streams : List StreamDoc) → length (headers streams) ≡ length streams + 2
-headers_length streams = let k = header_count streams in omega (arith, k)
-  where
-    header_count : (ss : List StreamDoc) → length (map header_of ss) ≡ length ss
-    header_count [] = refl
-    header_count (s ∷ ss) = ap suc (header_count ss)
-
 -- a new desk is ready for its streams
 pub ready : (streams : List StreamDoc) (front : List ℕ) (chunks : ℕ) → AreStreams streams → AreChunkTexts [] (headers streams) (least_chunk_texts [] (headers streams))
     → front ≡ least_file_text (headers streams) → chunks ≡ min (length (headers streams)) (2 ^ 64 - 1) → AllByRecursion (λ (s : StreamDoc). length s.doc ≤ 1_048_576) streams → length streams ≤ 64
@@ -140,7 +133,6 @@ pub ready : (streams : List StreamDoc) (front : List ℕ) (chunks : ℕ) → Are
 ready streams front chunks are texts is counted short few =
     let long = front_short streams short few in
     let same = ap length is in
-    let many = headers_length streams in
     record {
       ready = record { are = are; texts = texts };
       front = is;
@@ -150,6 +142,6 @@ ready streams front chunks are texts is counted short few =
       count = refl; empty = refl;
       since = same;
       size = omega (arith, long, same);
-      chunks = omega (arith, counted, many, few);
+      chunks = counted;
       whole = refl;
     }

@@ -13,3 +13,5 @@ pub mod Puts
 pub mod Spots
 pub mod FooterTexts
 pub mod Heads
+pub mod Outer
+pub mod Sizes

@@ -249,3 +249,23 @@ row_cut streams base held new last d batches (Some b) place position sample x y 
     subst (λ (q : ℕ). IsPut d q position sample x text → IsCut streams base last (closed batches (Some (with_entry q (Some b) position sample)))) at
         (λ own. gap_cut streams base new last (ended d y) batches b.place b.entries position sample x st.ready (more_between streams base held d batches position sample x text b st own why y has_y new bytes)
             (has_now streams base held d batches position sample x text b st own why y has_y) (order_now streams base held d batches position sample x text b st own why y has_y) front) p
+
+-- ---- room
+
+-- more room changes nothing else
+pub room_stands : (streams : List StreamDoc) (base held : Option (List ℕ)) (d : DeskState) (room : ℕ) (batches : List Batch) (current : Option Batch)
+    → StandsFor streams base held d batches current → StandsFor streams base held (record d { room = room }) batches current
+room_stands streams base held d room batches None st =
+    let w = st.written in
+    record {
+      ready = st.ready; groups = st.groups; divided = st.divided;
+      written = record { bytes = w.bytes; since = w.since; size = w.size; chunks = w.chunks; texts = w.texts; whole = w.whole };
+      places = st.places; order = st.order; count = st.count; empty = st.empty;
+    }
+room_stands streams base held d room batches (Some b) st =
+    let w = st.written in
+    record {
+      ready = st.ready; divides = st.divides;
+      written = record { bytes = w.bytes; since = w.since; size = w.size; chunks = w.chunks; texts = w.texts; whole = w.whole };
+      places = st.places; order = st.order; place = st.place; count = st.count; texts = st.texts;
+    }

@@ -84,7 +84,7 @@ pub record IsReady (streams : List StreamDoc) (d : DeskState) : Type 0 where
   pub empty : d.texts ≡ []
   pub since : d.since ≡ length (front_text streams)
   pub size : d.bytes ≡ capped (length (front_text streams))
-  pub chunks : d.chunks ≡ length (headers streams)
+  pub chunks : d.chunks ≡ capped (length (headers streams))
   pub whole : d.broken ≡ false
 
 -- no batch is open

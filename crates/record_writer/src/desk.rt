@@ -49,6 +49,13 @@ impl Model for Desk {
     ghost invariant = { λ d. IsFine d };
 }
 
+// What the type of a number of channels says of it.
+fn is_below(count: u16)
+    ensures { count < 2 ^ 16 }
+{
+    let _ = count;
+}
+
 impl Desk {
     ghost use Rattle.record_writer.specs.Desk.{with_piece, ended, ended_text, gapped, gap_text, missing_text, joined, next_of, new_desk, IsFinePlace};
     ghost use Rattle.record_writer.specs.Texts.{with_boundary};
@@ -122,6 +129,7 @@ impl Desk {
         ensures written { (x : PlaceValue) → slice_get self.old.places self.old.place ≡ Some x
             → OnOk result (Appends (K.held sink.old) (K.held sink.new) (ended_text self.old x)) }
         ensures empty { OnOk result ((self.new.count ≡ 0) × (self.new.texts ≡ [])) }
+        ensures bounds { (self.old.place < length self.old.places) × (self.old.count < 2 ^ 32) }
         ensures stays { OnOk result ((self.new.places ≡ self.old.places) × (self.new.room ≡ self.old.room) × (self.new.broken ≡ self.old.broken)) }
         ensures err { OnErr result (self.new ≡ record self.old { broken = true }) }
         ensures front { (x : PlaceValue) → slice_get self.old.places self.old.place ≡ Some x
@@ -174,9 +182,12 @@ impl Desk {
     // What is kept of the stream at a place.
     pub(crate) fn spot(&self, place: usize) -> Place
         requires { place < length self.now.places }
-        ensures { slice_get self.now.places place ≡ Some result }
+        ensures is { slice_get self.now.places place ≡ Some result }
+        ensures channels { result.shape.count < 2 ^ 16 }
     {
-        self.places[place]
+        let spot = self.places[place];
+        is_below(spot.shape.count);
+        spot
     }
 
     // Writes the row of the positions that are missing before one, where there are any.

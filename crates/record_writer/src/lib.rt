@@ -6,6 +6,7 @@
 //! reads such a file again.
 #![tactic(auto)]
 
+mod calls;
 mod desk;
 mod documents;
 mod ends;

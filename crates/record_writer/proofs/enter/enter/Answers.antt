@@ -1,2 +1,2 @@
-use Rattle.record_writer.proofs.Puts.{closed_stands, closed_cut, at_place, joins_any, begins_at, ended_cut, row_cut}
+use Rattle.record_writer.proofs.Sizes.{text_short, text_some}
 use Rattle.record_writer.proofs.enter.enter.Goals as goal
