@@ -20,6 +20,7 @@ mod place;
 mod put;
 mod recording;
 mod room;
+mod writer;
 mod written;
 
 pub use desk::Desk;
@@ -30,4 +31,5 @@ pub use place::Place;
 pub use recording::{RecordingText, recording_text};
 pub use recording_model::StreamDoc;
 pub use room::WriterRoom;
+pub use writer::Writer;
 pub use written::Written;
