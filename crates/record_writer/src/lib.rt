@@ -31,5 +31,5 @@ pub use place::Place;
 pub use recording::{RecordingText, recording_text};
 pub use recording_model::StreamDoc;
 pub use room::WriterRoom;
-pub use writer::Writer;
+pub use writer::{Lent, Writer};
 pub use written::Written;

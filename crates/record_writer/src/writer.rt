@@ -10,7 +10,6 @@ ghost use Rattle.recording_model.specs.Batch.{Batch};
 ghost use Rattle.recording_model.specs.Recording.{AreStreams};
 ghost use Rattle.record_writer.specs.declared.place.Place.{Place as PlaceValue};
 
-use crate::desk::Desk;
 use crate::fault::WriterFault;
 use crate::room::WriterRoom;
 use crate::written::Written;
@@ -19,36 +18,36 @@ use recording_model::StreamDoc;
 use sample_values::Sample;
 use std::alloc::Global;
 
+/// A sink that is lent, and the room that is used on it.
+///
+/// The room is a type parameter so that contracts can say what the sink holds once the whole is
+/// given up.
+#[derive(Drop)]
+pub struct Lent<'a, K: Sink, R> {
+    /// Where the file goes. Contracts name it; whoever writes to it beside the writer spoils the file.
+    pub sink: &'a mut K,
+    /// What is kept beside it.
+    pub room: R,
+}
+
 /// Writes the file of a recording into a sink, entry by entry.
 ///
 /// A batch is opened by its first entry and closed by `close_batch`; between the two only its own
 /// stream is put to. No history is kept: the clauses speak of every list of batches that the writer
 /// may stand for.
-#[derive(Drop)]
-pub struct Writer<'a, K: Sink> {
-    /// Where the file goes. Contracts name it; whoever writes to it beside the writer spoils the file.
-    pub sink: &'a mut K,
-    /// What is kept beside it.
-    pub desk: Desk,
-    scratch: Vec<u8>,
-}
+pub type Writer<'a, K> = Lent<'a, K, WriterRoom>;
 
-impl<'a, K: Sink> Writer<'a, K> {
+impl<'a, K: Sink> Lent<'a, K, WriterRoom> {
     ghost use Rattle.record_writer.specs.Desk.{new_place, next_at, shapes_of, IsFreeFor};
     ghost use Rattle.record_writer.specs.Standing.{IsReady, StandsFor, IsCut, IsFinished, closed, with_entry};
 
     /// A writer over a sink. Nothing is written yet; `begin` comes next.
-    pub fn over(sink: &'a mut K, room: WriterRoom) -> Writer<'a, K>
+    pub fn over(sink: &'a mut K, room: WriterRoom) -> Lent<'a, K, WriterRoom>
         ensures same_reference { result.sink.ghost_name ≡ sink.entry.ghost_name }
         ensures sink { result.sink.now ≡ sink.old }
-        ensures desk { result.desk ≡ room.desk }
+        ensures room { result.room ≡ room }
     {
-        let WriterRoom { desk, scratch } = room;
-        Writer {
-            sink,
-            desk,
-            scratch,
-        }
+        Lent { sink, room }
     }
 
     /// Writes the magic and the headers of a recording: of the file, of the ledger and of the streams
@@ -58,20 +57,20 @@ impl<'a, K: Sink> Writer<'a, K> {
     /// `WriteFault` comes only where a write of the sink failed in this call. A front of these bytes
     /// went out then, and the writer is broken.
     pub fn begin(&mut self) -> Result<(), WriterFault>
-        requires whole { self.old.desk.broken ≡ false }
+        requires whole { self.old.room.desk.broken ≡ false }
         ensures same_reference { self.new.sink.ghost_name ≡ self.old.sink.ghost_name }
-        ensures begun { (streams : List StreamValue) → IsReady streams self.old.desk
-            → OnOk result (StandsFor streams (K.held self.old.sink.now) (K.held self.new.sink.now) self.new.desk [] None) }
-        ensures cut { (streams : List StreamValue) → IsReady streams self.old.desk
+        ensures begun { (streams : List StreamValue) → IsReady streams self.old.room.desk
+            → OnOk result (StandsFor streams (K.held self.old.sink.now) (K.held self.new.sink.now) self.new.room.desk [] None) }
+        ensures cut { (streams : List StreamValue) → IsReady streams self.old.room.desk
             → OnErr result (IsCut streams (K.held self.old.sink.now) (K.held self.new.sink.now) []) }
         ensures fault { IfErr result (λ f. f ≡ WriterFault.WriteFault) }
-        ensures kept { OnOk result (self.new.desk ≡ self.old.desk) }
-        ensures broken { OnErr result (self.new.desk.broken ≡ true) }
+        ensures kept { OnOk result (self.new.room.desk ≡ self.old.room.desk) }
+        ensures broken { OnErr result (self.new.room.desk.broken ≡ true) }
         ensures cause { OnErr result (Rose (K.write_faults self.old.sink.now) (K.write_faults self.new.sink.now)) }
         ensures later { K.write_faults self.old.sink.now ≤ K.write_faults self.new.sink.now }
         ensures rest { K.rest self.new.sink.now ≡ K.rest self.old.sink.now }
     {
-        self.desk.begin(self.sink)
+        self.room.desk.begin(self.sink)
     }
 
     /// Makes the room, and begins: a writer that has written the headers.
@@ -84,20 +83,20 @@ impl<'a, K: Sink> Writer<'a, K> {
         alloc: Global,
         sink: &'a mut K,
         streams: &[StreamDoc],
-    ) -> Result<Writer<'a, K>, WriterFault>
+    ) -> Result<Lent<'a, K, WriterRoom>, WriterFault>
         requires are { AreStreams streams.now }
         requires some { 1 ≤ length streams.now }
         requires few { length streams.now ≤ 64 }
         requires short { AllByRecursion (λ s. length s.doc ≤ 1_048_576) streams.now }
         ensures same_reference { IfOk result (λ w. w.sink.ghost_name ≡ sink.entry.ghost_name) }
-        ensures begun { IfOk result (λ w. StandsFor streams.now (K.held sink.old) (K.held w.sink.now) w.desk [] None) }
-        ensures places { IfOk result (λ w. w.desk.places ≡ map new_place streams.now) }
-        ensures whole { IfOk result (λ w. (w.desk.broken ≡ false) × (w.desk.count ≡ 0)) }
+        ensures begun { IfOk result (λ w. StandsFor streams.now (K.held sink.old) (K.held w.sink.now) w.room.desk [] None) }
+        ensures places { IfOk result (λ w. w.room.desk.places ≡ map new_place streams.now) }
+        ensures whole { IfOk result (λ w. (w.room.desk.broken ≡ false) × (w.room.desk.count ≡ 0)) }
         ensures later { IfOk result (λ w. K.write_faults sink.old ≤ K.write_faults w.sink.now) }
         ensures rest { IfOk result (λ w. K.rest w.sink.now ≡ K.rest sink.old) }
     {
         let room = WriterRoom::new(alloc, streams)?;
-        let mut writer = Writer::over(sink, room);
+        let mut writer = Lent::over(sink, room);
         writer.begin()?;
         Ok(writer)
     }
@@ -112,32 +111,33 @@ impl<'a, K: Sink> Writer<'a, K> {
     /// file is held then, and the writer is broken. `Memory` comes for want of memory alone, and changes
     /// nothing.
     pub fn put(&mut self, place: usize, position: u64, sample: &Sample) -> Result<(), WriterFault>
-        requires place { place < length self.old.desk.places }
+        requires place { place < length self.old.room.desk.places }
         requires position { position < 2 ^ 41 }
-        requires low { next_at self.old.desk place ≤ position }
-        requires free { IsFreeFor self.old.desk place }
-        requires fits { (x : PlaceValue) → slice_get self.old.desk.places place ≡ Some x → FitsShape x.shape sample.now }
+        requires low { next_at self.old.room.desk place ≤ position }
+        requires free { IsFreeFor self.old.room.desk place }
+        requires fits { (x : PlaceValue) → slice_get self.old.room.desk.places place ≡ Some x → FitsShape x.shape sample.now }
         requires short { sum_by text_size sample.now.values ≤ text_limit }
-        requires whole { self.old.desk.broken ≡ false }
+        requires whole { self.old.room.desk.broken ≡ false }
         ensures same_reference { self.new.sink.ghost_name ≡ self.old.sink.ghost_name }
         ensures put { (streams : List StreamValue) (base : Option (List ℕ)) (batches : List Batch) (current : Option Batch)
-            → StandsFor streams base (K.held self.old.sink.now) self.old.desk batches current
-            → OnOk result (StandsFor streams base (K.held self.new.sink.now) self.new.desk batches (Some (with_entry place current position sample.now))) }
+            → StandsFor streams base (K.held self.old.sink.now) self.old.room.desk batches current
+            → OnOk result (StandsFor streams base (K.held self.new.sink.now) self.new.room.desk batches (Some (with_entry place current position sample.now))) }
         ensures cut { (streams : List StreamValue) (base : Option (List ℕ)) (batches : List Batch) (current : Option Batch)
-            → StandsFor streams base (K.held self.old.sink.now) self.old.desk batches current
+            → StandsFor streams base (K.held self.old.sink.now) self.old.room.desk batches current
             → IsErrOf result WriterFault.WriteFault → IsCut streams base (K.held self.new.sink.now) (closed batches (Some (with_entry place current position sample.now))) }
-        ensures memory { IsErrOf result WriterFault.Memory → (self.new.desk ≡ self.old.desk) × (self.new.sink.now ≡ self.old.sink.now) }
-        ensures next { OnOk result ((p : ℕ) → next_at self.new.desk p ≡ (if p == place then position + 1 else next_at self.old.desk p)) }
-        ensures shapes { OnOk result (shapes_of self.new.desk ≡ shapes_of self.old.desk) }
-        ensures open { OnOk result ((1 ≤ self.new.desk.count) × (self.new.desk.place ≡ place)) }
-        ensures whole { OnOk result (self.new.desk.broken ≡ false) }
-        ensures broken { IsErrOf result WriterFault.WriteFault → self.new.desk.broken ≡ true }
+        ensures memory { IsErrOf result WriterFault.Memory → (self.new.room.desk ≡ self.old.room.desk) × (self.new.sink.now ≡ self.old.sink.now) }
+        ensures next { OnOk result ((p : ℕ) → next_at self.new.room.desk p ≡ (if p == place then position + 1 else next_at self.old.room.desk p)) }
+        ensures shapes { OnOk result (shapes_of self.new.room.desk ≡ shapes_of self.old.room.desk) }
+        ensures open { OnOk result ((1 ≤ self.new.room.desk.count) × (self.new.room.desk.place ≡ place)) }
+        ensures whole { OnOk result (self.new.room.desk.broken ≡ false) }
+        ensures broken { IsErrOf result WriterFault.WriteFault → self.new.room.desk.broken ≡ true }
         ensures cause { IsErrOf result WriterFault.WriteFault → Rose (K.write_faults self.old.sink.now) (K.write_faults self.new.sink.now) }
         ensures later { K.write_faults self.old.sink.now ≤ K.write_faults self.new.sink.now }
         ensures rest { K.rest self.new.sink.now ≡ K.rest self.old.sink.now }
     {
-        self.desk
-            .put(&mut self.scratch, self.sink, place, position, sample)
+        self.room
+            .desk
+            .put(&mut self.room.scratch, self.sink, place, position, sample)
     }
 
     /// Closes the open batch, if there is one: its last chunk is written. It takes no memory.
@@ -145,24 +145,24 @@ impl<'a, K: Sink> Writer<'a, K> {
     /// `WriteFault` comes only where a write of the sink failed in this call. A front of a recording's
     /// file is held then, and the writer is broken.
     pub fn close_batch(&mut self) -> Result<(), WriterFault>
-        requires whole { self.old.desk.broken ≡ false }
+        requires whole { self.old.room.desk.broken ≡ false }
         ensures same_reference { self.new.sink.ghost_name ≡ self.old.sink.ghost_name }
         ensures closed { (streams : List StreamValue) (base : Option (List ℕ)) (batches : List Batch) (current : Option Batch)
-            → StandsFor streams base (K.held self.old.sink.now) self.old.desk batches current
-            → OnOk result (StandsFor streams base (K.held self.new.sink.now) self.new.desk (closed batches current) None) }
+            → StandsFor streams base (K.held self.old.sink.now) self.old.room.desk batches current
+            → OnOk result (StandsFor streams base (K.held self.new.sink.now) self.new.room.desk (closed batches current) None) }
         ensures cut { (streams : List StreamValue) (base : Option (List ℕ)) (batches : List Batch) (current : Option Batch)
-            → StandsFor streams base (K.held self.old.sink.now) self.old.desk batches current
+            → StandsFor streams base (K.held self.old.sink.now) self.old.room.desk batches current
             → OnErr result (IsCut streams base (K.held self.new.sink.now) (closed batches current)) }
         ensures fault { IfErr result (λ f. f ≡ WriterFault.WriteFault) }
-        ensures places { OnOk result (self.new.desk.places ≡ self.old.desk.places) }
-        ensures none { OnOk result (self.new.desk.count ≡ 0) }
-        ensures whole { OnOk result (self.new.desk.broken ≡ false) }
-        ensures broken { OnErr result (self.new.desk.broken ≡ true) }
+        ensures places { OnOk result (self.new.room.desk.places ≡ self.old.room.desk.places) }
+        ensures none { OnOk result (self.new.room.desk.count ≡ 0) }
+        ensures whole { OnOk result (self.new.room.desk.broken ≡ false) }
+        ensures broken { OnErr result (self.new.room.desk.broken ≡ true) }
         ensures cause { OnErr result (Rose (K.write_faults self.old.sink.now) (K.write_faults self.new.sink.now)) }
         ensures later { K.write_faults self.old.sink.now ≤ K.write_faults self.new.sink.now }
         ensures rest { K.rest self.new.sink.now ≡ K.rest self.old.sink.now }
     {
-        self.desk.close(self.sink)
+        self.room.desk.close(self.sink)
     }
 
     /// Writes the footers in the order of the headers: the ledger's counts its rows, a stream's its
@@ -172,25 +172,25 @@ impl<'a, K: Sink> Writer<'a, K> {
     /// `WriteFault` comes only where a write of the sink failed in this call. A front of the recording's
     /// file is held then.
     pub fn finish(self) -> Result<Written, WriterFault>
-        requires none { self.desk.count ≡ 0 }
-        requires whole { self.desk.broken ≡ false }
+        requires none { self.room.desk.count ≡ 0 }
+        requires whole { self.room.desk.broken ≡ false }
         ensures finished { (streams : List StreamValue) (base : Option (List ℕ)) (batches : List Batch)
-            → StandsFor streams base (K.held self.entry.sink.now) self.entry.desk batches None → IfOk result (IsFinished streams base (K.held self.exit.0.now) batches) }
+            → StandsFor streams base (K.held self.entry.sink.now) self.entry.room.desk batches None → IfOk result (IsFinished streams base (K.held self.exit.0.now) batches) }
         ensures cut { (streams : List StreamValue) (base : Option (List ℕ)) (batches : List Batch)
-            → StandsFor streams base (K.held self.entry.sink.now) self.entry.desk batches None → OnErr result (IsCut streams base (K.held self.exit.0.now) batches) }
+            → StandsFor streams base (K.held self.entry.sink.now) self.entry.room.desk batches None → OnErr result (IsCut streams base (K.held self.exit.0.now) batches) }
         ensures fault { IfErr result (λ f. f ≡ WriterFault.WriteFault) }
         ensures cause { OnErr result (Rose (K.write_faults self.entry.sink.now) (K.write_faults self.exit.0.now)) }
         ensures later { K.write_faults self.entry.sink.now ≤ K.write_faults self.exit.0.now }
         ensures rest { K.rest self.exit.0.now ≡ K.rest self.entry.sink.now }
     {
-        let mut desk = self.desk;
-        desk.finish(self.sink)
+        let mut room = self.room;
+        room.desk.finish(self.sink)
     }
 
     /// Whether a write has failed. The sink then holds a front of a recording's file.
     pub fn broken(&self) -> bool
-        ensures { result ≡ self.now.desk.broken }
+        ensures { result ≡ self.now.room.desk.broken }
     {
-        self.desk.is_broken()
+        self.room.desk.is_broken()
     }
 }
