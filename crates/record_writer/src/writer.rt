@@ -105,7 +105,7 @@ impl<'a, K: Sink> Lent<'a, K, WriterRoom> {
     /// missing before it, a row of the ledger says so. Where the samples of the open chunk and this one
     /// would have more than 1,048,576 bytes together, the open one is written first; a boundary stands
     /// behind each chunk that ends 65,536 bytes or more behind the last one. All this is this project's
-    /// own. A sample of a numeric stream takes no memory once one of its stream was put.
+    /// own. The room for samples of numeric streams is made before, so these ask for no memory.
     ///
     /// `WriteFault` comes only where a write of the sink failed in this call. A front of a recording's
     /// file is held then, and the writer is broken. `Memory` comes for want of memory alone, and changes
