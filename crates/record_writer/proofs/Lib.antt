@@ -1,2 +1,17 @@
 pub mod Spelled
 pub mod OneBatch
+pub mod Fronts
+pub mod Layouts
+pub mod Writing
+pub mod Counting
+pub mod Ordering
+pub mod Contexts
+pub mod Groups
+pub mod Steps
+pub mod Files
+pub mod Puts
+pub mod Spots
+pub mod FooterTexts
+pub mod Heads
+pub mod Outer
+pub mod Sizes
