@@ -6,6 +6,7 @@ pub mod Docked
 pub mod Files
 pub mod Known
 pub mod MemDock
+pub mod MemSink
 pub mod MemSource
 pub mod Moved
 pub mod Pieces

@@ -235,3 +235,39 @@ fn a_name_that_is_too_long_is_not_created(rt: HostRuntime) -> Result<(), Fail> {
     assert_eq!(rt; dock.target().len(), 4096);
     Ok(())
 }
+
+#[test]
+fn bytes_that_never_fail_are_given_in_order(rt: HostRuntime) -> Result<(), Fail> {
+    let mut source = NeverFails::new(Blob::from_bytes(rt.alloc(), b"abcde")?);
+    let mut buf = [b'.'; 3];
+    for (room, want, seen) in [
+        (2, 2, b"ab."),
+        (0, 0, b"ab."),
+        (3, 3, b"cde"),
+        (3, 0, b"cde"),
+    ] {
+        assert_eq!(rt; source.read(&mut buf[..room]), Ok(want));
+        assert_eq!(rt; buf.as_slice(), seen.as_slice());
+    }
+    Ok(())
+}
+
+#[test]
+fn a_sink_that_grows_takes_all(rt: HostRuntime) -> Result<(), Fail> {
+    let mut sink = MemSink::new(rt.alloc());
+    for (bytes, held) in [("", ""), ("abc", "abc"), ("d", "abcd")] {
+        assert_eq!(rt; sink.write(bytes.as_bytes()), Ok(bytes.len()));
+        assert_eq!(rt; sink.held(), held.as_bytes());
+    }
+    Ok(())
+}
+
+#[test]
+fn lines_are_counted(rt: HostRuntime) -> Result<(), Fail> {
+    let mut lines = CountLines::new();
+    for count in 0..3 {
+        assert_eq!(rt; lines.lines(), count);
+        assert_eq!(rt; lines.say("a line"), Ok(()));
+    }
+    Ok(())
+}
