@@ -210,6 +210,11 @@ fn asked(alloc: Global, top: Top, words: &str) -> Result<String, Fail> {
             format!(in alloc; "record {} to {}", plan.text(), out.text())?
         }
         Ok(Command::Show(file)) => format!(in alloc; "show {}", file.text())?,
+        Ok(Command::Check(file)) => format!(in alloc; "check {}", file.text())?,
+        Ok(Command::Repair { search, from, to }) => {
+            format!(in alloc; "repair {} to {} {search}", from.text(), to.text())?
+        }
+        Ok(Command::Drill(number)) => format!(in alloc; "drill {number}")?,
         Err(usage) => format!(in alloc; "{}", usage.why)?,
     })
 }
@@ -228,9 +233,24 @@ fn words_ask_for_a_command(rt: HostRuntime) -> Result<(), Fail> {
         (Top::Record, "record p p p", "3"),
         (Top::File, "show", "3"),
         (Top::File, "show a a", "3"),
+        (Top::Record, "check a", "2"),
+        (Top::File, "check", "3"),
+        (Top::File, "repair a", "3"),
+        (Top::File, "repair --search a b", "3"),
+        (Top::File, "drill", "3"),
+        (Top::File, "drill 0", "4"),
+        (Top::File, "drill 1000001", "4"),
+        (Top::File, "drill 00000001", "4"),
+        (Top::File, "drill -1", "4"),
+        (Top::File, "repair a a", "5"),
         (Top::Record, "record p p", "5"),
         (Top::Record, "record p o", "record p to o"),
         (Top::File, "show a", "show a"),
+        (Top::File, "check a", "check a"),
+        (Top::File, "repair a b", "repair a to b false"),
+        (Top::File, "repair --search b", "repair --search to b false"),
+        (Top::File, "drill 1", "drill 1"),
+        (Top::File, "drill 1000000", "drill 1000000"),
     ] {
         let told = asked(rt.alloc(), top, words)?;
         assert_eq!(rt; told.as_str(), want, "of {words}");
