@@ -1,0 +1,7 @@
+pub mod Entries
+pub mod Chunks
+pub mod Groups
+pub mod Batches
+pub mod Feeds
+pub mod Rings
+pub mod Dropped
