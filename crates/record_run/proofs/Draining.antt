@@ -1,0 +1,301 @@
+-- Entries of a ring, as they go one after the other to the writer.
+use Rattle.std.proofs.Common.{◌≡◌, ◌≢◌, ℕ, ◌+◌, ◌<◌, ◌≤◌, ◌==◌, inl, inr, false, List, [], ◌∷◌, ◌++◌, length, map, take, drop, if◌then◌else◌, Option, None, Some, Result, Ok, Err, refl, sym, ap, ◌∙◌, subst, append_assoc, arith}
+use Rattle.std.specs.Prelude.{slice_get, OnOk, OnErr}
+use Rattle.std.specs.List.{AllByRecursion}
+use Rattle.std.proofs.lemmas.Bool.Decides.{nat_tests}
+use Rattle.std.proofs.lemmas.List.{append-nil, length-map}
+use Rattle.std.proofs.lemmas.Option.{slice_get-map}
+use Rattle.xdf_model.specs.declared.types.Shape.{Shape}
+use Rattle.xdf_model.specs.Sample.{Sample, FitsShape}
+use Rattle.ring_model.specs.declared.entry.Entry.{Entry as RingEntry}
+use Rattle.ring_model.specs.Ring.{RingState, RingRun, Take}
+use Rattle.inlet_ring.specs.Lone.{Lone, take_events, StandsFor as RingStandsFor}
+use Rattle.recording_model.specs.declared.stream.StreamDoc.{StreamDoc}
+use Rattle.recording_model.specs.Batch.{Entry, Batch, entries_from}
+use Rattle.turns_model.specs.Turns.{batch_of}
+use Rattle.record_writer.specs.declared.place.Place.{Place}
+use Rattle.record_writer.specs.declared.fault.WriterFault.{WriterFault}
+use Rattle.record_writer.specs.declared.fault.WriterFault.TheVariants as fault
+use Rattle.record_writer.specs.Desk.{DeskState, next_at, shapes_of, IsFreeFor}
+use Rattle.record_writer.specs.Standing.{StandsFor, IsCut, closed, with_entry}
+use Rattle.record_writer.proofs.Stopped.{stands_cut}
+use Rattle.record_run.specs.Rings.{ring_entry}
+use Rattle.record_run.specs.Inlets.{InletView, IsFitting, IsDrained, AreWaiting}
+
+-- ---- the ring
+
+pub cons_of : {A : Type 0} (q : List A) (x : A) → slice_get q 0 ≡ Some x → q ≡ x ∷ drop 1 q
+cons_of [] x e = absurd cc
+cons_of (y ∷ q) x e = let same : y ≡ x = cc in ap (λ (z : _). z ∷ q) same
+
+pub nil_of : {A : Type 0} (q : List A) → slice_get q 0 ≡ None → q ≡ []
+nil_of [] e = refl
+nil_of (y ∷ q) e = absurd cc
+
+-- the oldest entry was taken
+pub record IsTake (old new : Lone Sample) (e : RingEntry Sample) : Type 0 where
+  pub oldest : slice_get old.queue 0 ≡ Some e
+  pub queue : new.queue ≡ drop 1 old.queue
+  pub pushes : new.pushes ≡ old.pushes
+  pub capacity : new.capacity ≡ old.capacity
+  pub steps : (a : RingState Sample) → RingStandsFor old a → (b : RingState Sample) × RingRun old.capacity a (take_events old.queue) b × RingStandsFor new b
+
+-- these were taken out of a ring
+pub record HasTaken (old now : Lone Sample) (a b : RingState Sample) : Type 0 where
+  pub puts : b.puts ≡ a.puts
+  pub taken : b.taken ++ now.queue ≡ a.taken ++ old.queue
+  pub dropped : b.dropped ≡ a.dropped
+
+run_take : (capacity : ℕ) (a b : RingState Sample) (e : RingEntry Sample) (q : List (RingEntry Sample)) → a.queue ≡ e ∷ q → RingRun capacity a (Take ∷ []) b
+    → (b.puts ≡ a.puts) × (b.taken ≡ a.taken ++ e ∷ []) × (b.dropped ≡ a.dropped)
+run_take capacity a b e q is run =
+    let change = run.1.change in
+    let last = run.2 in
+    let one : take 1 a.queue ≡ e ∷ [] = ap (take 1) is in
+    (cc, cc, cc)
+
+take_one : (old new : Lone Sample) (e : RingEntry Sample) (a : RingState Sample) → IsTake old new e → RingStandsFor old a
+    → (b : RingState Sample) × RingStandsFor new b × HasTaken old new a b
+take_one old new e a t st =
+    let q = drop 1 old.queue in
+    let is : old.queue ≡ e ∷ q = cons_of old.queue e t.oldest in
+    let k = t.steps a st in
+    let P : List (RingEntry Sample) → Type 0 = λ l. RingRun old.capacity a (take_events l) k.0 in
+    let r = run_take old.capacity a k.0 e q (sym st.queue ∙ is) (subst P is k.1) in (
+      k.0,
+      k.2,
+      record {
+        puts = r.0;
+        taken = ap (λ (l : List (RingEntry Sample)). l ++ new.queue) r.1 ∙ append_assoc a.taken (e ∷ []) new.queue ∙ ap (λ (l : List (RingEntry Sample)). a.taken ++ e ∷ l) t.queue
+            ∙ ap (λ (l : List (RingEntry Sample)). a.taken ++ l) (sym is);
+        dropped = r.2;
+      },
+    )
+
+-- ---- what waits
+
+-- the entry comes next, and these wait behind it
+pub record ComesNext (shape : Shape) (next pushes : ℕ) (e : RingEntry Sample) (rest : List (RingEntry Sample)) : Type 0 where
+  pub low : next ≤ e.position
+  pub fits : IsFitting shape e.value
+  pub more : List Sample
+  pub queue : map ring_entry rest ≡ entries_from (e.position + 1) more
+  pub high : e.position + 1 + length more ≤ pushes
+  pub all : AllByRecursion (IsFitting shape) more
+
+next_of : (shape : Shape) (next pushes first : ℕ) (samples : List Sample) (e : RingEntry Sample) (rest : List (RingEntry Sample)) → ring_entry e ∷ map ring_entry rest ≡ entries_from first samples
+    → next ≤ first → first + length samples ≤ pushes → AllByRecursion (IsFitting shape) samples → ComesNext shape next pushes e rest
+next_of shape next pushes first [] e rest is low high fits = absurd cc
+next_of shape next pushes first (s ∷ more) e rest is low high fits =
+    let head : ring_entry e ≡ record { position = first; sample = s } = cc in
+    let at : e.position ≡ first = ap (λ (x : Entry). x.position) head in
+    let value : s ≡ e.value = sym (ap (λ (x : Entry). x.sample) head) in
+    let tail : map ring_entry rest ≡ entries_from (first + 1) more = cc in
+    record {
+      low = omega arith;
+      fits = subst (IsFitting shape) value fits.0;
+      more = more;
+      queue = tail ∙ ap (λ (n : ℕ). entries_from (n + 1) more) (sym at);
+      high = omega arith;
+      all = fits.1;
+    }
+
+pub comes_next : {S : Type 0} (shape : Shape) (next : ℕ) (x : InletView S) (e : RingEntry Sample) → AreWaiting shape next x → slice_get x.ring.queue 0 ≡ Some e → ComesNext shape next x.ring.pushes e (drop 1 x.ring.queue)
+comes_next shape next x e w is =
+    next_of shape next x.ring.pushes w.first w.samples e (drop 1 x.ring.queue) (sym (ap (map ring_entry) (cons_of x.ring.queue e is)) ∙ w.queue) w.low w.high w.fits
+
+-- ---- the batch
+
+-- the open batch of these entries; none where there are none
+abbrev pub open_of : ℕ → List Entry → Option Batch
+open_of place [] = None
+open_of place (e ∷ more) = Some (record { place = place; entries = e ∷ more })
+
+pub open_more : (place position : ℕ) (s : Sample) (put : List Entry) → Some (with_entry place (open_of place put) position s) ≡ open_of place (put ++ record { position = position; sample = s } ∷ [])
+open_more place position s [] = refl
+open_more place position s (e ∷ more) = refl
+
+pub closed_all : (place : ℕ) (batches : List Batch) (put : List Entry) → closed batches (open_of place put) ≡ batches ++ batch_of place put
+closed_all place batches [] = sym (append-nil batches)
+closed_all place batches (e ∷ more) = refl
+
+pub record SameBut {S : Type 0} (x now : InletView S) : Type 0 where
+  pub id : now.id ≡ x.id
+  pub source : now.source ≡ x.source
+  pub inlet : now.inlet ≡ x.inlet
+  pub end : now.end ≡ x.end
+  pub drops : now.drops ≡ x.drops
+  pub pushes : now.ring.pushes ≡ x.ring.pushes
+  pub capacity : now.ring.capacity ≡ x.ring.capacity
+
+-- so far these entries were put
+pub record Draining {S : Type 0} (place : ℕ) (x now : InletView S) (before after : DeskState) (base_held held : Option (List ℕ)) : Type 0 where
+  pub put : List Entry
+  pub shape : Shape
+  pub is_shape : slice_get (shapes_of after) place ≡ Some shape
+  pub waits : AreWaiting shape (next_at after place) now
+  pub parts : map ring_entry x.ring.queue ≡ put ++ map ring_entry now.ring.queue
+  pub stands : (streams : List StreamDoc) (base : Option (List ℕ)) (batches : List Batch) → StandsFor streams base base_held before batches None → StandsFor streams base held after batches (open_of place put)
+  pub free : IsFreeFor after place
+  pub whole : after.broken ≡ false
+  pub next_else : (p : ℕ) → p ≢ place → next_at after p ≡ next_at before p
+  pub shapes : shapes_of after ≡ shapes_of before
+  pub same : SameBut x now
+  pub states : (s : RingState Sample) → RingStandsFor x.ring s → (t : RingState Sample) × RingStandsFor now.ring t × HasTaken x.ring now.ring s t
+
+pub draining_none : {S : Type 0} (place : ℕ) (x : InletView S) (desk : DeskState) (held : Option (List ℕ)) (shape : Shape) → slice_get (shapes_of desk) place ≡ Some shape → AreWaiting shape (next_at desk place) x
+    → desk.count ≡ 0 → desk.broken ≡ false → Draining place x x desk desk held held
+draining_none place x desk held shape is_shape waits count whole = record {
+  put = [];
+  shape = shape;
+  is_shape = is_shape;
+  waits = waits;
+  parts = refl;
+  stands = λ streams base batches st. st;
+  free = inl count;
+  whole = whole;
+  next_else = λ p ne. refl;
+  shapes = refl;
+  same = record { id = refl; source = refl; inlet = refl; end = refl; drops = refl; pushes = refl; capacity = refl };
+  states = λ s st. (s, st, record { puts = refl; taken = refl; dropped = refl });
+}
+
+-- an entry was put
+pub record IsOnePut (place position : ℕ) (s : Sample) (before after : DeskState) (held_before held_after : Option (List ℕ)) : Type 0 where
+  pub put : (streams : List StreamDoc) (base : Option (List ℕ)) (batches : List Batch) (current : Option Batch) → StandsFor streams base held_before before batches current
+      → StandsFor streams base held_after after batches (Some (with_entry place current position s))
+  pub next : (p : ℕ) → next_at after p ≡ (if p == place then position + 1 else next_at before p)
+  pub shapes : shapes_of after ≡ shapes_of before
+  pub place_is : after.place ≡ place
+  pub whole : after.broken ≡ false
+
+waits_more : {S : Type 0} (shape : Shape) (now next : InletView S) (e : RingEntry Sample) (at after : ℕ) → ComesNext shape at now.ring.pushes e (drop 1 now.ring.queue) → IsTake now.ring next.ring e → after ≡ e.position + 1
+    → AreWaiting shape after next
+waits_more shape now next e at after n t is = record {
+  first = e.position + 1;
+  samples = n.more;
+  queue = ap (map ring_entry) t.queue ∙ n.queue;
+  low = omega arith;
+  high = omega (arith, n.high, t.pushes);
+  fits = n.all;
+}
+
+pub draining_more : {S : Type 0} (place : ℕ) (x now next : InletView S) (before mid after : DeskState) (base_held held_mid held : Option (List ℕ)) (e : RingEntry Sample)
+    → Draining place x now before mid base_held held_mid → IsTake now.ring next.ring e → SameBut now next → IsOnePut place e.position e.value mid after held_mid held
+    → Draining place x next before after base_held held
+draining_more place x now next before mid after base_held held_mid held e d t same o =
+    let n = comes_next d.shape (next_at mid place) now e d.waits t.oldest in
+    let entry : Entry = ring_entry e in
+    let here : next_at after place ≡ e.position + 1 = let k = o.next place in grind (arith, nat_tests) in
+    let is : now.ring.queue ≡ e ∷ next.ring.queue = cons_of now.ring.queue e t.oldest ∙ ap (λ (l : List (RingEntry Sample)). e ∷ l) (sym t.queue) in
+    record {
+      put = d.put ++ entry ∷ [];
+      shape = d.shape;
+      is_shape = ap (λ (l : List Shape). slice_get l place) o.shapes ∙ d.is_shape;
+      waits = waits_more d.shape now next e (next_at mid place) (next_at after place) n t here;
+      parts = d.parts ∙ ap (λ (l : List (RingEntry Sample)). d.put ++ map ring_entry l) is ∙ sym (append_assoc d.put (entry ∷ []) (map ring_entry next.ring.queue));
+      stands = λ streams base batches st.
+          subst (StandsFor streams base held after batches) (open_more place e.position e.value d.put) (o.put streams base batches (open_of place d.put) (d.stands streams base batches st));
+      free = inr o.place_is;
+      whole = o.whole;
+      next_else = λ p ne. let k = o.next p in let l = d.next_else p ne in grind (arith, nat_tests);
+      shapes = o.shapes ∙ d.shapes;
+      same = record {
+        id = same.id ∙ d.same.id;
+        source = same.source ∙ d.same.source;
+        inlet = same.inlet ∙ d.same.inlet;
+        end = same.end ∙ d.same.end;
+        drops = same.drops ∙ d.same.drops;
+        pushes = t.pushes ∙ d.same.pushes;
+        capacity = t.capacity ∙ d.same.capacity;
+      };
+      states = λ s st.
+          let k = d.states s st in
+          let one = take_one now.ring next.ring e k.0 t k.1 in
+          (one.0, one.1, record { puts = one.2.puts ∙ k.2.puts; taken = one.2.taken ∙ k.2.taken; dropped = one.2.dropped ∙ k.2.dropped });
+    }
+
+-- ---- what a put asks for
+
+pub fits_at : (places : List Place) (place : ℕ) (shape : Shape) (s : Sample) → slice_get (map (λ (x : Place). x.shape) places) place ≡ Some shape → FitsShape shape s → (x : Place) → slice_get places place ≡ Some x → FitsShape x.shape s
+fits_at places place shape s is fits x there =
+    let e = slice_get-map (λ (y : Place). y.shape) places place in
+    let same : shape ≡ x.shape = cc in
+    subst (λ (y : Shape). FitsShape y s) same fits
+
+pub still_within : (places first : List Place) (place : ℕ) → map (λ (x : Place). x.shape) places ≡ map (λ (x : Place). x.shape) first → place < length first → place < length places
+still_within places first place same lt =
+    let f : Place → Shape = λ x. x.shape in
+    omega (arith, ap length same, length-map places f, length-map first f)
+
+-- ---- where a put fails
+
+-- a front of a recording's file is held
+pub cut_put : {S : Type 0} (place position : ℕ) (s : Sample) (x now : InletView S) (before mid : DeskState) (base_held held_mid held : Option (List ℕ)) (r : Result (Unit {0}) WriterFault)
+    → Draining place x now before mid base_held held_mid
+    → ((streams : List StreamDoc) (base : Option (List ℕ)) (batches : List Batch) (current : Option Batch) → StandsFor streams base held_mid mid batches current → r ≡ Err fault.WriteFault
+    → IsCut streams base held (closed batches (Some (with_entry place current position s))))
+    → (r ≡ Err fault.Memory → held ≡ held_mid)
+    → (streams : List StreamDoc) (base : Option (List ℕ)) (batches : List Batch) → StandsFor streams base base_held before batches None → OnErr r ((some : List Batch) × IsCut streams base held some)
+cut_put place position s x now before mid base_held held_mid held (Ok v) d cut memory streams base batches st = tt
+cut_put place position s x now before mid base_held held_mid held (Err fault.WriteFault) d cut memory streams base batches st =
+    (closed batches (Some (with_entry place (open_of place d.put) position s)), cut streams base batches (open_of place d.put) (d.stands streams base batches st) refl)
+cut_put place position s x now before mid base_held held_mid held (Err fault.Memory) d cut memory streams base batches st =
+    let P : Option (List ℕ) → Type 0 = λ h. IsCut streams base h (closed batches (open_of place d.put)) in
+    (closed batches (open_of place d.put), subst P (sym (memory refl)) (stands_cut streams base held_mid mid batches (open_of place d.put) (d.stands streams base batches st)))
+
+-- ---- the whole pass
+
+-- nothing was there to take
+pub record IsNoTake (old new : Lone Sample) : Type 0 where
+  pub oldest : slice_get old.queue 0 ≡ None
+  pub queue : new.queue ≡ drop 1 old.queue
+  pub pushes : new.pushes ≡ old.pushes
+  pub capacity : new.capacity ≡ old.capacity
+  pub steps : (a : RingState Sample) → RingStandsFor old a → (b : RingState Sample) × RingRun old.capacity a (take_events old.queue) b × RingStandsFor new b
+
+pub all_put : {S : Type 0} (place : ℕ) (x now : InletView S) (before after : DeskState) (base_held held : Option (List ℕ)) (d : Draining place x now before after base_held held) → slice_get now.ring.queue 0 ≡ None
+    → d.put ≡ map ring_entry x.ring.queue
+all_put place x now before after base_held held d none =
+    sym (append-nil d.put) ∙ ap (λ (l : List (RingEntry Sample)). d.put ++ map ring_entry l) (sym (nil_of now.ring.queue none)) ∙ sym d.parts
+
+-- the batch is closed
+pub closed_so : {S : Type 0} (place : ℕ) (x now : InletView S) (before after last : DeskState) (base_held held_mid held : Option (List ℕ)) (r : Result (Unit {0}) WriterFault)
+    → Draining place x now before after base_held held_mid → slice_get now.ring.queue 0 ≡ None
+    → ((streams : List StreamDoc) (base : Option (List ℕ)) (batches : List Batch) (current : Option Batch) → StandsFor streams base held_mid after batches current → OnOk r (StandsFor streams base held last (closed batches current) None))
+    → (streams : List StreamDoc) (base : Option (List ℕ)) (batches : List Batch) → StandsFor streams base base_held before batches None
+    → OnOk r (StandsFor streams base held last (batches ++ batch_of place (map ring_entry x.ring.queue)) None)
+closed_so place x now before after last base_held held_mid held r d none closes streams base batches st =
+    let is : closed batches (open_of place d.put) ≡ batches ++ batch_of place (map ring_entry x.ring.queue) =
+    closed_all place batches d.put ∙ ap (λ (es : List Entry). batches ++ batch_of place es) (all_put place x now before after base_held held_mid d none) in
+    subst (λ (bs : List Batch). OnOk r (StandsFor streams base held last bs None)) is (closes streams base batches (open_of place d.put) (d.stands streams base batches st))
+
+pub cut_so : {S : Type 0} (place : ℕ) (x now : InletView S) (before after : DeskState) (base_held held_mid held : Option (List ℕ)) (r : Result (Unit {0}) WriterFault)
+    → Draining place x now before after base_held held_mid
+    → ((streams : List StreamDoc) (base : Option (List ℕ)) (batches : List Batch) (current : Option Batch) → StandsFor streams base held_mid after batches current → OnErr r (IsCut streams base held (closed batches current)))
+    → (streams : List StreamDoc) (base : Option (List ℕ)) (batches : List Batch) → StandsFor streams base base_held before batches None → OnErr r ((some : List Batch) × IsCut streams base held some)
+cut_so place x now before after base_held held_mid held (Ok v) d cuts streams base batches st = tt
+cut_so place x now before after base_held held_mid held (Err e) d cuts streams base batches st =
+    (closed batches (open_of place d.put), cuts streams base batches (open_of place d.put) (d.stands streams base batches st))
+
+pub drained_all : {S : Type 0} (place : ℕ) (x now next : InletView S) (before after : DeskState) (base_held held : Option (List ℕ)) → Draining place x now before after base_held held → IsNoTake now.ring next.ring → SameBut now next
+    → IsDrained x next
+drained_all place x now next before after base_held held d t same =
+    let empty : now.ring.queue ≡ [] = nil_of now.ring.queue t.oldest in
+    record {
+      id = same.id ∙ d.same.id;
+      source = same.source ∙ d.same.source;
+      inlet = same.inlet ∙ d.same.inlet;
+      end = same.end ∙ d.same.end;
+      drops = same.drops ∙ d.same.drops;
+      queue = t.queue ∙ ap (drop 1) empty;
+      pushes = t.pushes ∙ d.same.pushes;
+      capacity = t.capacity ∙ d.same.capacity;
+      states = λ s st.
+          let k = d.states s st in
+          let one = t.steps k.0 k.1 in
+          let P : List (RingEntry Sample) → Type 0 = λ l. RingRun now.ring.capacity k.0 (take_events l) one.0 in
+          let stays : one.0 ≡ k.0 = subst P empty one.1 in
+          let taken : k.0.taken ≡ s.taken ++ x.ring.queue = sym (append-nil k.0.taken) ∙ ap (λ (l : List (RingEntry Sample)). k.0.taken ++ l) (sym empty) ∙ k.2.taken in
+          (one.0, one.2, ap (λ (b : RingState Sample). b.puts) stays ∙ k.2.puts, ap (λ (b : RingState Sample). b.taken) stays ∙ taken, ap (λ (b : RingState Sample). b.dropped) stays ∙ k.2.dropped);
+    }

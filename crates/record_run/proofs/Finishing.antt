@@ -1,0 +1,232 @@
+-- The end of a run.
+use Rattle.std.proofs.Common.{◌≡◌, ℕ, zero, suc, ◌+◌, ◌-◌, ◌*◌, ◌≤◌, List, [], ◌∷◌, length, map, take, slice_get, Option, Some, None, refl, sym, ap, ◌∙◌, subst, arith}
+use Rattle.std.specs.List.{AllByRecursion}
+use Rattle.std.proofs.lemmas.List.{take_all, length-map}
+use Rattle.reading_model.specs.Read.{Reader, IsRead}
+use Rattle.xdf_model.specs.Sample.{Sample}
+use Rattle.chunk_grammar.specs.declared.chunk.Chunk.{Chunk}
+use Rattle.inlet_model.specs.declared.end.FeedEnd.{FeedEnd}
+use Rattle.inlet_model.specs.Inlet.{feed_kind}
+use Rattle.ring_model.specs.Ring.{IsReached}
+use Rattle.recording_model.specs.declared.row.Row.{Row}
+use Rattle.recording_model.specs.declared.stream.StreamDoc.{StreamDoc}
+use Rattle.recording_model.specs.Ledger.{stream_samples, ledger_rows}
+use Rattle.recording_model.specs.Batch.{Entry, Batch}
+use Rattle.recording_model.specs.Recording.{IsRecording, lost_in}
+use Rattle.turns_model.specs.Turns.{first_turns, turn_batches}
+use Rattle.turns_laws.proofs.Enough.{enough}
+use Rattle.loss_model.specs.Loss.{IsFeedPrefix, AreOf, accounted, behind_last, entries_at, entries_without}
+use Rattle.loss_laws.proofs.Feeds.{of_its_feed}
+use Rattle.loss_laws.proofs.Dropped.{dropped_is}
+use Rattle.loss_laws.proofs.Rings.{all_put}
+use Rattle.record_writer.specs.declared.written.Written.{Written}
+use Rattle.record_writer.specs.Desk.{DeskState}
+use Rattle.record_writer.specs.Standing.{IsFinished}
+use Rattle.record_run.specs.declared.feed.FeedSource.{FeedSource}
+use Rattle.record_run.specs.declared.report.FeedReport.{FeedReport}
+use Rattle.record_run.specs.Run.{feed_of, Fed, IsFed, report_of}
+use Rattle.record_run.specs.Rings.{ring_entry}
+use Rattle.record_run.specs.Kept.{kept_up_to}
+use Rattle.record_run.specs.Inlets.{InletView, HasGiven}
+use Rattle.record_run.specs.Outcomes.{IsRecorded}
+use Rattle.record_run.specs.Turning.{IsTurned, AreTurned, HaveEnded, end_or, report_in}
+use Rattle.record_run.proofs.Slabs.{kept_are}
+use Rattle.record_run.proofs.Beside.{entries_turns}
+
+abbrev report : ℕ → ℕ → ℕ → ℕ → FeedEnd → FeedReport
+report i a c m e = record { id = i; received = a; kept = c; lost = m; end = e }
+
+same_report : (i j a b c d m n : ℕ) (e f : FeedEnd) → i ≡ j → a ≡ b → c ≡ d → m ≡ n → e ≡ f → report i a c m e ≡ report j b d n f
+same_report i j a b c d m n e f p q r s t =
+    ap (λ (v : ℕ). report v a c m e) p ∙ ap (λ (v : ℕ). report j v c m e) q ∙ ap (λ (v : ℕ). report j b v m e) r ∙ ap (λ (v : ℕ). report j b d v e) s ∙ ap (report j b d n) t
+
+-- ---- one feed
+
+module _ {S M : Type 0} (left_of : S → Option (List ℕ)) (faults_of : S → ℕ) (mark_of : S → M) where
+  read_by : (reader : Reader Sample FeedEnd) (first : S) (x : InletView S) (given : List Sample) (e : FeedEnd) (end : Option FeedEnd) → end ≡ Some e → HasGiven left_of faults_of reader first x given end
+      → mark_of x.source ≡ mark_of first → faults_of first ≤ faults_of x.source → IsRead left_of faults_of mark_of feed_kind reader first x.source given e
+  read_by reader first x given e None is h marked later = absurd cc
+  read_by reader first x given e (Some d) is h marked later =
+      let same : d ≡ e = cc is in
+      subst (λ (k : FeedEnd). IsRead left_of faults_of mark_of feed_kind reader first x.source given k) same (record {
+        marked = marked;
+        later = later;
+        taken = h.0.0;
+        lost = h.0.1;
+        ends = h.0.2;
+        cause = h.1;
+      })
+
+  module _ (ring batch turns place : ℕ) (streams : List StreamDoc) (lists : List (List Sample)) (chunks : List Chunk) (stream : StreamDoc) (feed : FeedSource S) (samples : List Sample) (x : InletView S) (e : FeedEnd)
+      (low : 1 ≤ ring) (some : 1 ≤ batch) (k : IsTurned left_of faults_of mark_of ring batch turns stream feed samples x) (is : x.end ≡ Some e)
+      (recording : IsRecording streams (turn_batches ring batch lists) chunks) (enough_turns : first_turns ring batch lists turns ≡ turn_batches ring batch lists)
+      (has_stream : slice_get streams place ≡ Some stream) (has_list : slice_get lists place ≡ Some samples) where
+    abbrev batches : List Batch
+    batches = turn_batches ring batch lists
+
+    entries : entries_at place batches ≡ kept_up_to ring batch samples turns
+    entries = ap (entries_at place) (sym enough_turns) ∙ entries_turns ring batch place turns lists samples has_list
+
+    are_of : AreOf samples (entries_at place batches)
+    are_of = subst (AreOf samples) (sym entries) (kept_are ring batch turns samples)
+
+    abbrev rows : List Row
+    rows = ledger_rows stream.id chunks
+
+    law : IsFeedPrefix samples chunks stream.id × (accounted stream.id chunks ≡ behind_last (entries_at place batches)) × (entries_at place batches ≡ entries_without rows (take (accounted stream.id chunks) samples))
+    law = of_its_feed streams batches chunks place stream samples recording has_stream are_of (omega (arith, k.bounded))
+
+    all : accounted stream.id chunks ≡ length samples
+    all = law.1 ∙ ap behind_last entries ∙ k.behind
+
+    given : entries_at place batches ≡ entries_without rows samples
+    given = law.2 ∙ ap (λ (n : ℕ). entries_without rows (take n samples)) all ∙ ap (entries_without rows) (take_all (length samples) samples (omega arith))
+
+    gave : map ring_entry k.state.taken ≡ entries_without rows samples
+    gave = k.taken ∙ sym entries ∙ given
+
+    empty : k.state.queue ≡ []
+    empty = sym k.stands.queue ∙ k.queue
+
+    reached : IsReached ring k.state
+    reached = subst (λ (n : ℕ). IsReached n k.state) k.capacity k.stands.reached
+
+    -- how many are in the file, and how many the ring dropped
+    kept_count : length (stream_samples stream.id chunks) ≡ length k.state.taken
+    kept_count =
+        let one = ap length law.0.kept ∙ length-map (entries_without rows (take (accounted stream.id chunks) samples)) (λ (f : Entry). f.sample) in
+        let two = ap length (sym law.2 ∙ given ∙ sym gave) ∙ length-map k.state.taken ring_entry in
+        one ∙ two
+
+    counts : length k.state.taken + length k.state.dropped ≡ length samples
+    counts = let sum = (all_put ring k.state reached).3 in let none = ap length empty in let puts = ap length k.puts in omega (arith, sum, none, puts)
+
+    pub lost_count : lost_in stream.id chunks ≡ x.drops
+    lost_count = omega (arith, all, kept_count, counts, k.drops)
+
+    pub fed_is : IsFed left_of faults_of mark_of ring batches chunks place (record { stream = stream; feed = feed; last = x.source; samples = samples; end = e })
+    fed_is = record {
+      read = read_by (feed_of stream feed) feed.source x samples e x.end is k.given k.marked k.later;
+      whole = record { prefix = law.0; all = all };
+      dropped = record {
+        state = k.state;
+        reached = reached;
+        puts = k.puts;
+        queue = empty;
+        taken = k.taken ∙ sym entries;
+        dropped = dropped_is ring k.state rows samples reached k.puts empty gave;
+      };
+      few = omega (arith, lost_count, k.few);
+    }
+
+    pub report_is : report_in x ≡ report_of chunks (record { stream = stream; feed = feed; last = x.source; samples = samples; end = e })
+    report_is =
+        let kept : x.ring.pushes - x.drops ≡ length (stream_samples stream.id chunks) = omega (arith, all, lost_count, k.pushes) in
+        let last : end_or x.end ≡ e = ap end_or is in
+        same_report x.id stream.id x.ring.pushes (length samples) (x.ring.pushes - x.drops) (length (stream_samples stream.id chunks)) x.drops (lost_in stream.id chunks) (end_or x.end) e
+        k.id k.pushes kept (sym lost_count) last
+
+-- ---- all feeds
+
+module _ {S M : Type 0} (left_of : S → Option (List ℕ)) (faults_of : S → ℕ) (mark_of : S → M) where
+  -- each feed with its stream and what it gave
+  abbrev pub all_fed : List StreamDoc → List (FeedSource S) → List (List Sample) → List (InletView S) → List (Fed S)
+  all_fed (s ∷ streams) (d ∷ feeds) (l ∷ lists) (x ∷ xs) = record { stream = s; feed = d; last = x.source; samples = l; end = end_or x.end } ∷ all_fed streams feeds lists xs
+  all_fed [] feeds lists xs = []
+  all_fed (s ∷ streams) [] lists xs = []
+  all_fed (s ∷ streams) (d ∷ feeds) [] xs = []
+  all_fed (s ∷ streams) (d ∷ feeds) (l ∷ lists) [] = []
+
+  fed_streams : (streams : List StreamDoc) (feeds : List (FeedSource S)) (lists : List (List Sample)) (xs : List (InletView S)) → length feeds ≡ length streams → length lists ≡ length streams → length xs ≡ length streams
+      → map (λ (y : Fed S). y.stream) (all_fed streams feeds lists xs) ≡ streams
+  fed_streams [] feeds lists xs a b c = refl
+  fed_streams (s ∷ streams) [] lists xs a b c = absurd (omega (arith, a))
+  fed_streams (s ∷ streams) (d ∷ feeds) [] xs a b c = absurd (omega (arith, b))
+  fed_streams (s ∷ streams) (d ∷ feeds) (l ∷ lists) [] a b c = absurd (omega (arith, c))
+  fed_streams (s ∷ streams) (d ∷ feeds) (l ∷ lists) (x ∷ xs) a b c = ap (λ (t : List StreamDoc). s ∷ t) (fed_streams streams feeds lists xs (omega (arith, a)) (omega (arith, b)) (omega (arith, c)))
+
+  fed_feeds : (streams : List StreamDoc) (feeds : List (FeedSource S)) (lists : List (List Sample)) (xs : List (InletView S)) → length feeds ≡ length streams → length lists ≡ length streams → length xs ≡ length streams
+      → map (λ (y : Fed S). y.feed) (all_fed streams feeds lists xs) ≡ feeds
+  fed_feeds [] [] lists xs a b c = refl
+  fed_feeds [] (d ∷ feeds) lists xs a b c = absurd (omega (arith, a))
+  fed_feeds (s ∷ streams) [] lists xs a b c = absurd (omega (arith, a))
+  fed_feeds (s ∷ streams) (d ∷ feeds) [] xs a b c = absurd (omega (arith, b))
+  fed_feeds (s ∷ streams) (d ∷ feeds) (l ∷ lists) [] a b c = absurd (omega (arith, c))
+  fed_feeds (s ∷ streams) (d ∷ feeds) (l ∷ lists) (x ∷ xs) a b c = ap (λ (t : List (FeedSource S)). d ∷ t) (fed_feeds streams feeds lists xs (omega (arith, a)) (omega (arith, b)) (omega (arith, c)))
+
+  fed_lists : (streams : List StreamDoc) (feeds : List (FeedSource S)) (lists : List (List Sample)) (xs : List (InletView S)) → length feeds ≡ length streams → length lists ≡ length streams → length xs ≡ length streams
+      → map (λ (y : Fed S). y.samples) (all_fed streams feeds lists xs) ≡ lists
+  fed_lists [] feeds [] xs a b c = refl
+  fed_lists [] feeds (l ∷ lists) xs a b c = absurd (omega (arith, b))
+  fed_lists (s ∷ streams) [] lists xs a b c = absurd (omega (arith, a))
+  fed_lists (s ∷ streams) (d ∷ feeds) [] xs a b c = absurd (omega (arith, b))
+  fed_lists (s ∷ streams) (d ∷ feeds) (l ∷ lists) [] a b c = absurd (omega (arith, c))
+  fed_lists (s ∷ streams) (d ∷ feeds) (l ∷ lists) (x ∷ xs) a b c = ap (λ (t : List (List Sample)). l ∷ t) (fed_lists streams feeds lists xs (omega (arith, a)) (omega (arith, b)) (omega (arith, c)))
+
+  -- which feed stands at a place
+  fed_at : (streams : List StreamDoc) (feeds : List (FeedSource S)) (lists : List (List Sample)) (xs : List (InletView S)) (p : ℕ) (y : Fed S) → slice_get (all_fed streams feeds lists xs) p ≡ Some y
+      → (s : StreamDoc) × (d : FeedSource S) × (l : List Sample) × (x : InletView S) × (slice_get streams p ≡ Some s) × (slice_get feeds p ≡ Some d) × (slice_get lists p ≡ Some l) × (slice_get xs p ≡ Some x)
+      × (y ≡ record { stream = s; feed = d; last = x.source; samples = l; end = end_or x.end })
+  fed_at [] feeds lists xs p y e = absurd cc
+  fed_at (s ∷ streams) [] lists xs p y e = absurd cc
+  fed_at (s ∷ streams) (d ∷ feeds) [] xs p y e = absurd cc
+  fed_at (s ∷ streams) (d ∷ feeds) (l ∷ lists) [] p y e = absurd cc
+  fed_at (s ∷ streams) (d ∷ feeds) (l ∷ lists) (x ∷ xs) zero y e = (s, d, l, x, refl, refl, refl, refl, sym (cc e))
+  fed_at (s ∷ streams) (d ∷ feeds) (l ∷ lists) (x ∷ xs) (suc p) y e = fed_at streams feeds lists xs p y e
+
+  reports_same : (chunks : List Chunk) (streams : List StreamDoc) (feeds : List (FeedSource S)) (lists : List (List Sample)) (xs : List (InletView S)) → length feeds ≡ length streams → length lists ≡ length streams → length xs ≡ length streams
+      → ((p : ℕ) (s : StreamDoc) (d : FeedSource S) (l : List Sample) (x : InletView S) → slice_get streams p ≡ Some s → slice_get feeds p ≡ Some d → slice_get lists p ≡ Some l → slice_get xs p ≡ Some x
+      → report_in x ≡ report_of chunks (record { stream = s; feed = d; last = x.source; samples = l; end = end_or x.end }))
+      → map report_in xs ≡ map (report_of chunks) (all_fed streams feeds lists xs)
+  reports_same chunks [] feeds lists [] a b c each = refl
+  reports_same chunks [] feeds lists (x ∷ xs) a b c each = absurd (omega (arith, c))
+  reports_same chunks (s ∷ streams) [] lists xs a b c each = absurd (omega (arith, a))
+  reports_same chunks (s ∷ streams) (d ∷ feeds) [] xs a b c each = absurd (omega (arith, b))
+  reports_same chunks (s ∷ streams) (d ∷ feeds) (l ∷ lists) [] a b c each = absurd (omega (arith, c))
+  reports_same chunks (s ∷ streams) (d ∷ feeds) (l ∷ lists) (x ∷ xs) a b c each =
+      ap (λ (r : FeedReport). r ∷ map report_in xs) (each 0 s d l x refl refl refl refl)
+      ∙ ap (λ (rs : List FeedReport). report_of chunks (record { stream = s; feed = d; last = x.source; samples = l; end = end_or x.end }) ∷ rs)
+      (reports_same chunks streams feeds lists xs (omega (arith, a)) (omega (arith, b)) (omega (arith, c)) (λ p es ed el ex i j m n. each (suc p) es ed el ex i j m n))
+
+  list_short : (ring batch turns : ℕ) (streams : List StreamDoc) (feeds : List (FeedSource S)) (lists : List (List Sample)) (xs : List (InletView S)) → length feeds ≡ length streams → length lists ≡ length streams → length xs ≡ length streams
+      → ((p : ℕ) (s : StreamDoc) (d : FeedSource S) (l : List Sample) (x : InletView S) → slice_get streams p ≡ Some s → slice_get feeds p ≡ Some d → slice_get lists p ≡ Some l → slice_get xs p ≡ Some x
+      → length l ≤ turns * batch) → AllByRecursion (λ (l : List Sample). length l ≤ turns * batch) lists
+  list_short ring batch turns streams feeds [] xs a b c each = tt
+  list_short ring batch turns [] feeds (l ∷ lists) xs a b c each = absurd (omega (arith, b))
+  list_short ring batch turns (s ∷ streams) [] (l ∷ lists) xs a b c each = absurd (omega (arith, a))
+  list_short ring batch turns (s ∷ streams) (d ∷ feeds) (l ∷ lists) [] a b c each = absurd (omega (arith, c))
+  list_short ring batch turns (s ∷ streams) (d ∷ feeds) (l ∷ lists) (x ∷ xs) a b c each =
+      (each 0 s d l x refl refl refl refl, list_short ring batch turns streams feeds lists xs (omega (arith, a)) (omega (arith, b)) (omega (arith, c)) (λ p es ed el ex i j m n. each (suc p) es ed el ex i j m n))
+
+  -- the file was finished
+  pub recorded_is : (ring batch turns : ℕ) (streams : List StreamDoc) (feeds : List (FeedSource S)) (base held now : Option (List ℕ)) (desk : DeskState) (lists : List (List Sample)) (xs : List (InletView S)) (w : Written)
+      → 1 ≤ ring → 1 ≤ batch → AreTurned left_of faults_of mark_of ring batch turns streams feeds base held desk lists xs → HaveEnded xs → IsFinished streams base now (first_turns ring batch lists turns) w
+      → IsRecorded left_of faults_of mark_of ring batch streams feeds base now (map report_in xs) w.bytes w.chunks
+  recorded_is ring batch turns streams feeds base held now desk lists xs w low some k over f =
+      let fed = all_fed streams feeds lists xs in
+      let short = list_short ring batch turns streams feeds lists xs k.feed_count k.list_count k.inlet_count (λ p s d l x i j m n. (k.each p s d l x i j m n).short) in
+      let all_turns = enough ring batch turns lists some short in
+      let recording = subst (λ (bs : List Batch). IsRecording streams bs f.chunks) all_turns f.recording in
+      let lists_are = fed_lists streams feeds lists xs k.feed_count k.list_count k.inlet_count in
+      let P : List (List Sample) → Type 0 = λ ls. IsRecording streams (turn_batches ring batch ls) f.chunks in
+      let ended : (p : ℕ) (x : InletView S) → slice_get xs p ≡ Some x → x.end ≡ Some (end_or x.end) = λ p x e. let o = over p x e in o.1 ∙ ap (λ (y : Option FeedEnd). Some (end_or y)) (sym o.1) in
+      record {
+        fed = fed;
+        chunks = f.chunks;
+        run = record {
+          each_stream = fed_streams streams feeds lists xs k.feed_count k.list_count k.inlet_count;
+          each_feed = fed_feeds streams feeds lists xs k.feed_count k.list_count k.inlet_count;
+          recording = subst P (sym lists_are) recording;
+          text = f.file;
+          each = λ p y e.
+              let m = fed_at streams feeds lists xs p y e in
+              let Q : List (List Sample) → Type 0 = λ ls. IsFed left_of faults_of mark_of ring (turn_batches ring batch ls) f.chunks p y in
+              subst Q (sym lists_are) (subst (λ (z : Fed S). IsFed left_of faults_of mark_of ring (turn_batches ring batch lists) f.chunks p z) (sym m.8)
+              (fed_is left_of faults_of mark_of ring batch turns p streams lists f.chunks m.0 m.1 m.2 m.3 (end_or m.3.end) low some (k.each p m.0 m.1 m.2 m.3 m.4 m.5 m.6 m.7) (ended p m.3 m.7) recording all_turns m.4 m.6));
+        };
+        written = f.all;
+        told = reports_same f.chunks streams feeds lists xs k.feed_count k.list_count k.inlet_count (λ p s d l x i j m n.
+            report_is left_of faults_of mark_of ring batch turns p streams lists f.chunks s d l x (end_or x.end) low some (k.each p s d l x i j m n) (ended p x n) recording all_turns i m);
+        size = f.size;
+        chunk_count = f.count;
+      }

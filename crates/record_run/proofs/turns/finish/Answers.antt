@@ -1,0 +1,23 @@
+use Rattle.std.proofs.Common.{List, sym, subst, ◌∙◌}
+use Rattle.turns_model.specs.Turns.{first_turns}
+use Rattle.record_run.specs.declared.report.FeedReport.{FeedReport}
+use Rattle.record_run.specs.Outcomes.{IsRecorded}
+use Rattle.record_run.proofs.Rounds.{on_err}
+use Rattle.record_run.proofs.Starting.{cut_off}
+use Rattle.record_run.proofs.Finishing.{recorded_is}
+use Rattle.record_run.proofs.turns.finish.Goals as goal
+
+pub returns-in_err-written-clause-stopped : goal.returns-in_err-written-clause-stopped
+returns-in_err-written-clause-stopped g c = λ ring batch turns streams feeds base lists low some k.
+    on_err _ (cut_off streams base _ (first_turns ring batch lists turns) (c.in_err-written.ensures.cut streams base (first_turns ring batch lists turns) k.written))
+
+pub returns-clause-done : goal.returns-clause-done
+returns-clause-done g c = λ ring batch turns streams feeds base lists low some k.
+    let L = g.S.Source.left in
+    let F = g.S.Source.faults in
+    let M = g.S.Source.mark in
+    let w = c.in_ok-written.written in
+    let now = g.K.Sink.held c.finish.new.self.0 in
+    let done = recorded_is L F M ring batch turns streams feeds base _ now c.args.writer.room.desk lists c.args.inlets.now w low some k c.requires.ended (c.in_ok-written.ensures.finished streams base (first_turns ring batch lists turns) k.written) in
+    let P : List FeedReport → Type 0 = λ reports. IsRecorded L F M ring batch streams feeds base now reports w.bytes w.chunks in
+    subst P (sym (c.from_vec.ensures ∙ c.report_all.ensures)) done

@@ -1,0 +1,43 @@
+use Rattle.std.proofs.Common.{rules, ◌≡◌, ℕ, List, Option, sym, ap, subst}
+use Rattle.std.specs.Prelude.{IfOk, OnErr}
+use Rattle.record_writer.specs.declared.room.WriterRoom.{WriterRoom}
+use Rattle.record_run.specs.Outcomes.{IsRecorded, IsCutOff}
+use Rattle.record_run.specs.Recorders.{IsOpenFor}
+use Rattle.record_run.proofs.turns.record.Goals as goal
+
+pub returns-in-Ok-clause-done : goal.returns-in-Ok-clause-done
+returns-in-Ok-clause-done g c = λ ring streams feeds o.
+    let L = g.S.Source.left in
+    let F = g.S.Source.faults in
+    let M = g.S.Source.mark in
+    let batch = c.args.batch in
+    let R : WriterRoom → Type 0 = λ room. IsOpenFor ring batch streams feeds (record { inlets = c.args.inlets.now; desk = room.desk; batch = batch }) in
+    let t = c.in-Ok.ensures.turned ring streams feeds (subst R (sym c.over-writer.ensures.room) o) in
+    let before : g.K.Sink.held c.over-writer.result.sink.now ≡ g.K.Sink.held c.args.sink.now = ap g.K.Sink.held c.over-writer.ensures.sink in
+    let after : g.K.Sink.held c.finish.new.writer.0 ≡ g.K.Sink.held c.sink-1.given.0 = search rules in
+    let B : Option (List ℕ) → Type 0 = λ base. IfOk c.finish.result (λ r. IsRecorded L F M ring batch streams feeds base (g.K.Sink.held c.finish.new.writer.0) r.reports r.bytes r.chunks) in
+    let A : Option (List ℕ) → Type 0 = λ now. IfOk c.finish.result (λ r. IsRecorded L F M ring batch streams feeds (g.K.Sink.held c.args.sink.now) now r.reports r.bytes r.chunks) in
+    subst A after (subst B before (c.finish.ensures.done ring batch t.0 streams feeds (g.K.Sink.held c.over-writer.result.sink.now) t.1 o.low o.some t.2))
+
+pub returns-in-Ok-clause-stopped : goal.returns-in-Ok-clause-stopped
+returns-in-Ok-clause-stopped g c = λ ring streams feeds o.
+    let batch = c.args.batch in
+    let R : WriterRoom → Type 0 = λ room. IsOpenFor ring batch streams feeds (record { inlets = c.args.inlets.now; desk = room.desk; batch = batch }) in
+    let t = c.in-Ok.ensures.turned ring streams feeds (subst R (sym c.over-writer.ensures.room) o) in
+    let before : g.K.Sink.held c.over-writer.result.sink.now ≡ g.K.Sink.held c.args.sink.now = ap g.K.Sink.held c.over-writer.ensures.sink in
+    let after : g.K.Sink.held c.finish.new.writer.0 ≡ g.K.Sink.held c.sink-1.given.0 = search rules in
+    let B : Option (List ℕ) → Type 0 = λ base. OnErr c.finish.result (IsCutOff streams base (g.K.Sink.held c.finish.new.writer.0)) in
+    let A : Option (List ℕ) → Type 0 = λ now. OnErr c.finish.result (IsCutOff streams (g.K.Sink.held c.args.sink.now) now) in
+    subst A after (subst B before (c.finish.ensures.stopped ring batch t.0 streams feeds (g.K.Sink.held c.over-writer.result.sink.now) t.1 o.low o.some t.2))
+
+pub returns-in-Err-clause-stopped : goal.returns-in-Err-clause-stopped
+returns-in-Err-clause-stopped g c = λ ring streams feeds o.
+    let batch = c.args.batch in
+    let R : WriterRoom → Type 0 = λ room. IsOpenFor ring batch streams feeds (record { inlets = c.args.inlets.now; desk = room.desk; batch = batch }) in
+    let k = c.in-Err.ensures.cut ring streams feeds (subst R (sym c.over-writer.ensures.room) o) in
+    let before : g.K.Sink.held c.over-writer.result.sink.now ≡ g.K.Sink.held c.args.sink.now = ap g.K.Sink.held c.over-writer.ensures.sink in
+    let let_go : g.K.Sink.held c.take_turns.new.writer.sink.now ≡ g.K.Sink.held c.let_go.new.writer.0 = ap g.K.Sink.held (sym c.let_go.ensures) in
+    let after : g.K.Sink.held c.let_go.new.writer.0 ≡ g.K.Sink.held c.sink-in-Err-1.given.0 = search rules in
+    let B : Option (List ℕ) → Type 0 = λ base. IsCutOff streams base (g.K.Sink.held c.take_turns.new.writer.sink.now) in
+    let A : Option (List ℕ) → Type 0 = λ now. IsCutOff streams (g.K.Sink.held c.args.sink.now) now in
+    subst A after (subst A let_go (subst B before k))

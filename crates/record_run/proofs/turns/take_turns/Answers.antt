@@ -1,0 +1,116 @@
+use Rattle.std.proofs.Common.{◌≡◌, ◌+◌, ℕ, suc, List, [], refl, sym, ap, ◌∙◌, subst, arith}
+use Rattle.xdf_model.specs.Sample.{Sample}
+use Rattle.turns_model.specs.Turns.{first_turns}
+use Rattle.record_writer.specs.Desk.{DeskState}
+use Rattle.record_writer.specs.Standing.{IsClosed}
+use Rattle.record_run.specs.Turning.{AreTurned}
+use Rattle.record_run.proofs.Rounds.{on_err}
+use Rattle.record_run.proofs.Stepping.{new_lists, all_waiting, all_turned}
+use Rattle.record_run.proofs.Starting.{opened_turned, queues_empty, not_endless, turned_cut, cut_off}
+use Rattle.record_run.proofs.turns.take_turns.Goals as goal
+
+pub loop-init : goal.loop-init
+loop-init g c =
+    let L = g.S.Source.left in
+    let F = g.S.Source.faults in
+    let M = g.S.Source.mark in
+    let base = g.K.Sink.held c.args.writer.now.sink.now in
+    let held = g.K.Sink.held c.begin.new.self.sink.now in
+    let old = c.args.writer.now.room.desk in
+    let e = c.in_ok-begin.ensures in
+    let same : c.begin.new.self.room.desk ≡ old = e.kept in
+    let ready = c.requires.ready.3.ready in
+    record {
+      same_reference = e.same_reference;
+      turned = λ ring streams feeds o.
+          let P : DeskState → Type 0 = λ d. IsClosed streams base held d [] in
+          let Q : DeskState → Type 0 = λ d. (lists : List (List Sample)) × AreTurned L F M ring c.args.batch 0 streams feeds base held d lists c.args.inlets.now in
+          subst Q (sym same) (opened_turned L F M ring c.args.batch streams feeds (record { inlets = c.args.inlets.now; desk = old; batch = c.args.batch }) base held o (subst P same (e.begun streams o.ready)));
+      count = refl;
+      closed = ap (λ (d : DeskState). d.count) same ∙ ready.count;
+      whole = ap (λ (d : DeskState). d.broken) same ∙ ready.whole;
+      waits = λ one. absurd (omega (arith, one));
+      later = e.later;
+      rest = e.rest;
+    }
+
+pub returns-in_err-fill_all-clause-cut : goal.returns-in_err-fill_all-clause-cut
+returns-in_err-fill_all-clause-cut g c = λ ring streams feeds o.
+    let i = c.loop.invariant.turned ring streams feeds o in
+    on_err c.from_residual-in_err-fill_all.result
+    (cut_off streams _ _ (first_turns ring c.args.batch i.0 c.loop.counter) (turned_cut g.S.Source.left g.S.Source.faults g.S.Source.mark ring c.args.batch c.loop.counter streams feeds _ _ c.loop.writer.room.desk i.0 c.loop.inlets i.1))
+
+pub drain_all-requires-clause-waiting : goal.drain_all-requires-clause-waiting
+drain_all-requires-clause-waiting g c =
+    let L = g.S.Source.left in
+    let F = g.S.Source.faults in
+    let M = g.S.Source.mark in
+    let ring = c.requires.ready.0 in
+    let streams = c.requires.ready.1 in
+    let feeds = c.requires.ready.2 in
+    let o = c.requires.ready.3 in
+    let i = c.loop.invariant.turned ring streams feeds o in
+    let f = c.in_ok-fill_all.ensures.filled (queues_empty L F M ring c.args.batch c.loop.counter streams feeds _ _ c.loop.writer.room.desk i.0 c.loop.inlets i.1) in
+    all_waiting L F M c.args.batch ring c.loop.counter streams feeds _ _ c.loop.writer.room.desk i.0 c.loop.inlets c.fill_all.new.inlets o.low o.some i.1 c.in_ok-fill_all.ensures.count f
+
+pub returns-in_err-drain_all-clause-cut : goal.returns-in_err-drain_all-clause-cut
+returns-in_err-drain_all-clause-cut g c = λ ring streams feeds o.
+    let i = c.loop.invariant.turned ring streams feeds o in
+    let k = c.in_err-drain_all.ensures.cut streams _ (first_turns ring c.args.batch i.0 c.loop.counter) i.1.written in
+    on_err c.from_residual-in_err-drain_all.result (cut_off streams _ _ k.0 k.1)
+
+pub returns-then-have_ended-clause-turned : goal.returns-then-have_ended-clause-turned
+returns-then-have_ended-clause-turned g c = λ ring streams feeds o.
+    let L = g.S.Source.left in
+    let F = g.S.Source.faults in
+    let M = g.S.Source.mark in
+    let n = c.loop.counter in
+    let i = c.loop.invariant.turned ring streams feeds o in
+    let e = c.in_ok-drain_all.ensures in
+    let f = c.in_ok-fill_all.ensures.filled (queues_empty L F M ring c.args.batch n streams feeds _ _ c.loop.writer.room.desk i.0 c.loop.inlets i.1) in (
+      suc n,
+      new_lists L F M c.args.batch ring n streams feeds _ _ c.loop.writer.room.desk i.0 c.loop.inlets c.fill_all.new.inlets o.low o.some i.1 c.in_ok-fill_all.ensures.count f,
+      all_turned L F M c.args.batch ring n streams feeds _ _ c.loop.writer.room.desk i.0 c.loop.inlets c.fill_all.new.inlets o.low o.some i.1 c.in_ok-fill_all.ensures.count f
+          c.drain_all.new.inlets _ c.drain_all.new.writer.room.desk e.count e.drained (e.put streams _ (first_turns ring c.args.batch i.0 n) i.1.written) e.next e.shapes,
+    )
+
+pub returns-then-have_ended-clause-ended : goal.returns-then-have_ended-clause-ended
+returns-then-have_ended-clause-ended g c = c.have_ended.ensures.all c.if-have_ended.true
+
+pub loop-preserved : goal.loop-preserved
+loop-preserved g c =
+    let L = g.S.Source.left in
+    let F = g.S.Source.faults in
+    let M = g.S.Source.mark in
+    let n = c.loop.counter in
+    let inv = c.loop.invariant in
+    let e = c.in_ok-drain_all.ensures in
+    record {
+      same_reference = e.same_reference ∙ inv.same_reference;
+      turned = λ ring streams feeds o.
+          let i = inv.turned ring streams feeds o in
+          let one : suc n ≡ n + 1 = omega arith in
+          let f = c.in_ok-fill_all.ensures.filled (queues_empty L F M ring c.args.batch n streams feeds _ _ c.loop.writer.room.desk i.0 c.loop.inlets i.1) in
+          let lists = new_lists L F M c.args.batch ring n streams feeds _ _ c.loop.writer.room.desk i.0 c.loop.inlets c.fill_all.new.inlets o.low o.some i.1 c.in_ok-fill_all.ensures.count f in
+          let P : ℕ → Type 0 = λ m. AreTurned L F M ring c.args.batch m streams feeds (g.K.Sink.held c.args.writer.now.sink.now) (g.K.Sink.held c.drain_all.new.writer.sink.now) c.drain_all.new.writer.room.desk lists c.drain_all.new.inlets in (
+            lists,
+            subst P one (all_turned L F M c.args.batch ring n streams feeds _ _ c.loop.writer.room.desk i.0 c.loop.inlets c.fill_all.new.inlets o.low o.some i.1 c.in_ok-fill_all.ensures.count f
+                c.drain_all.new.inlets _ c.drain_all.new.writer.room.desk e.count e.drained (e.put streams _ (first_turns ring c.args.batch i.0 n) i.1.written) e.next e.shapes),
+          );
+      count = e.count ∙ c.in_ok-fill_all.ensures.count ∙ inv.count;
+      closed = e.closed;
+      whole = e.whole;
+      waits = λ one. c.have_ended.ensures.some c.if-have_ended.false;
+      later = omega (arith, e.later, inv.later);
+      rest = e.rest ∙ inv.rest;
+    }
+
+pub unreachable-requires : goal.unreachable-requires
+unreachable-requires g c =
+    let ring = c.requires.ready.0 in
+    let streams = c.requires.ready.1 in
+    let feeds = c.requires.ready.2 in
+    let o = c.requires.ready.3 in
+    let i = c.loop.invariant.turned ring streams feeds o in
+    let w = c.loop.invariant.waits (omega (arith, c.loop-test.false)) in
+    not_endless g.S.Source.left g.S.Source.faults g.S.Source.mark ring c.args.batch c.loop.counter streams feeds _ _ c.loop.writer.room.desk i.0 c.loop.inlets i.1 w.0 w.1 w.2 w.3 o.some (omega (arith, c.loop-test.false))

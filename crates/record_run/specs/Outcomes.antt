@@ -1,0 +1,42 @@
+-- How a run went. This project's own.
+use Rattle.std.specs.Prelude.{◌≡◌, ℕ, List, length, map, ⊤, Option}
+use Rattle.std.specs.Io.KnownBytes.{Appends}
+use Rattle.rec_base.specs.Known.{AppendsFront}
+use Rattle.chunk_grammar.specs.declared.chunk.Chunk.{Chunk}
+use Rattle.chunk_grammar.specs.Chunk.{least_file_text}
+use Rattle.recording_model.specs.declared.stream.StreamDoc.{StreamDoc}
+use Rattle.recording_model.specs.Batch.{Batch}
+use Rattle.recording_model.specs.Recording.{IsRecording}
+use Rattle.record_writer.specs.Desk.{capped}
+use Rattle.record_run.specs.declared.feed.FeedSource.{FeedSource}
+use Rattle.record_run.specs.declared.outcome.Outcome.{Outcome}
+use Rattle.record_run.specs.declared.outcome.Outcome.TheVariants.{Done, WriteFault, Memory}
+use Rattle.record_run.specs.declared.report.FeedReport.{FeedReport}
+use Rattle.record_run.specs.Run.{Fed, IsRun, report_of}
+
+-- the file of the recording of the feeds by turns was written, and what is reported is so
+pub record IsRecorded {S M : Type 0} (left_of : S → Option (List ℕ)) (faults_of : S → ℕ) (mark_of : S → M) (ring batch : ℕ) (streams : List StreamDoc) (feeds : List (FeedSource S)) (before now : Option (List ℕ)) (reports : List FeedReport) (bytes count : ℕ) : Type 0 where
+  pub fed : List (Fed S)
+  pub chunks : List Chunk
+  pub run : IsRun left_of faults_of mark_of ring batch streams feeds fed chunks
+  pub written : Appends before now (least_file_text chunks)
+  pub told : reports ≡ map (report_of chunks) fed
+  pub size : bytes ≡ capped (length (least_file_text chunks))
+  pub chunk_count : count ≡ capped (length chunks)
+
+abbrev pub IsDone : {S M : Type 0} → (S → Option (List ℕ)) → (S → ℕ) → (S → M) → ℕ → ℕ → List StreamDoc → List (FeedSource S) → Option (List ℕ) → Option (List ℕ) → Outcome → Type 0
+IsDone left_of faults_of mark_of ring batch streams feeds before now (Done reports bytes count) = IsRecorded left_of faults_of mark_of ring batch streams feeds before now reports bytes count
+IsDone left_of faults_of mark_of ring batch streams feeds before now WriteFault = ⊤
+IsDone left_of faults_of mark_of ring batch streams feeds before now Memory = ⊤
+
+-- a front of the file of some recording of these streams was written
+pub record IsCutOff (streams : List StreamDoc) (before now : Option (List ℕ)) : Type 0 where
+  pub batches : List Batch
+  pub chunks : List Chunk
+  pub recording : IsRecording streams batches chunks
+  pub front : AppendsFront before now (least_file_text chunks)
+
+abbrev pub IsStopped : List StreamDoc → Option (List ℕ) → Option (List ℕ) → Outcome → Type 0
+IsStopped streams before now (Done reports bytes count) = ⊤
+IsStopped streams before now WriteFault = IsCutOff streams before now
+IsStopped streams before now Memory = IsCutOff streams before now

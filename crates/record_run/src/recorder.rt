@@ -1,0 +1,143 @@
+//! A recorder: the feeds of a recording with all that is needed to record them.
+
+ghost use Rattle.std.specs.Prelude.{◌≡◌, ◌≤◌, ℕ, List, length, slice_get, Some, IfOk};
+ghost use Rattle.std.specs.List.{AllByRecursion};
+ghost use Rattle.rec_base.specs.Causes.{Rose};
+ghost use Rattle.recording_model.specs.declared.stream.StreamDoc.{StreamDoc as StreamValue};
+ghost use Rattle.recording_model.specs.Recording.{AreStreams};
+ghost use Rattle.record_run.specs.declared.feed.FeedSource.{FeedSource as FeedValue};
+ghost use Rattle.record_run.specs.Inlets.{InletView};
+ghost use Rattle.record_run.specs.Recorders.{IsNewInlet, IsOpenFor};
+ghost use Rattle.record_run.specs.Outcomes.{IsDone, IsStopped};
+
+use crate::feed::FeedSource;
+use crate::inlet::Inlet;
+use crate::outcome::Outcome;
+use crate::report::FeedReport;
+use crate::turns::record;
+use rec_base::{Memory, Sink, Source};
+use record_writer::{WriterFault, WriterRoom};
+use recording_model::StreamDoc;
+use std::alloc::Global;
+use std::marker::Model;
+
+/// The feeds of a recording, each with its reader and its ring, and the room of the writer.
+#[derive(Drop)]
+pub struct Recorder<S: Source> {
+    inlets: Vec<Inlet<S>>,
+    room: WriterRoom,
+    // room for what becomes of the feeds
+    reports: Vec<FeedReport>,
+    batch: u64,
+}
+
+impl<S: Source> Model for Recorder<S> {
+    ghost use Rattle.record_run.specs.Recorders.{RecorderView, IsOpen};
+
+    ghost Value = { RecorderView S };
+
+    ghost view = { λ r. record { inlets = r.inlets.items; desk = r.room.desk; batch = r.batch } };
+
+    ghost use Rattle.std.specs.Prelude.{◌≡◌, ◌≤◌, [], length, vec_capacity};
+
+    ghost invariant = { λ r. IsOpen (record { inlets = r.inlets.items; desk = r.room.desk; batch = r.batch })
+        × (r.reports.items ≡ []) × (length r.inlets.items ≤ vec_capacity r.reports) };
+}
+
+// An inlet for each feed.
+fn new_inlets<S: Source + Drop>(
+    alloc: Global,
+    ring: usize,
+    streams: &[StreamDoc],
+    feeds: Vec<FeedSource<S>>,
+) -> Result<Vec<Inlet<S>>, Memory>
+    requires low { 1 ≤ ring }
+    requires high { ring ≤ 1_048_576 }
+    requires feeds { length feeds.items ≡ length streams.now }
+    ensures count { IfOk result (λ inlets. length inlets.items ≡ length streams.now) }
+    ensures each { IfOk result (λ inlets. (place : ℕ) (stream : StreamValue) (feed : FeedValue S) (x : InletView S) → slice_get streams.now place ≡ Some stream
+        → slice_get feeds.items place ≡ Some feed → slice_get inlets.items place ≡ Some x → IsNewInlet ring stream feed x) }
+{
+    let mut feeds = feeds;
+    let mut inlets = Vec::with_capacity(alloc, streams.len())?;
+    for place in 0..streams.len() {
+        // There are few feeds, so moving those behind it costs nothing that counts.
+        let feed = feeds.remove(0);
+        let stream = &streams[place];
+        let inlet = Inlet::new(alloc, stream.id, ring, stream.shape, feed)?;
+        inlets.push(inlet)?;
+    }
+    Ok(inlets)
+}
+
+impl<S: Source + Send + Drop> Recorder<S> {
+    /// A recorder of these feeds, each as the stream at its place. `ring` is the most samples that wait
+    /// in a feed's ring, 1 to 1,048,576, and `batch` the most that are read and written of a feed in a
+    /// turn, 1 to 65,536. There are 1 to 64 streams, whose header documents have at most 1,048,576
+    /// bytes. All memory of the run but that of texts is taken here, and nothing is read.
+    ///
+    /// `Memory` comes for want of memory alone; the sources are then given up.
+    pub fn open(
+        alloc: Global,
+        ring: u64,
+        batch: u64,
+        streams: Vec<StreamDoc>,
+        feeds: Vec<FeedSource<S>>,
+    ) -> Result<Recorder<S>, Memory>
+        requires ring_low { 1 ≤ ring }
+        requires ring_high { ring ≤ 1_048_576 }
+        requires batch_low { 1 ≤ batch }
+        requires batch_high { batch ≤ 65_536 }
+        requires are { AreStreams streams.items }
+        requires some { 1 ≤ length streams.items }
+        requires few { length streams.items ≤ 64 }
+        requires short { AllByRecursion (λ s. length s.doc ≤ 1_048_576) streams.items }
+        requires feeds { length feeds.items ≡ length streams.items }
+        ensures { IfOk result (λ r. IsOpenFor ring batch streams.items feeds.items r) }
+    {
+        let room = WriterRoom::new(alloc, &streams)?;
+        let reports = Vec::with_capacity(alloc, streams.len())?;
+        let inlets = new_inlets(alloc, ring as usize, &streams, feeds)?;
+        Ok(Recorder {
+            inlets,
+            room,
+            reports,
+            batch,
+        })
+    }
+
+    /// Records by turns, on this thread. A turn has two passes over the feeds in order: first each feed
+    /// that hasn't ended puts up to `batch` samples into its ring, which drops its oldest where it is
+    /// full; then what waits in each ring is written as one batch. Once every feed has ended the file is
+    /// finished. It returns always: each turn takes at least one sample or is the last.
+    ///
+    /// `Done` says what became of the feeds, and that the file is whole. `WriteFault` comes only where a
+    /// write of the sink failed in this call, `Memory` for want of memory alone; a front of a recording's
+    /// file went out then.
+    pub fn run_turns<K: Sink>(self, sink: &mut K) -> Outcome
+        ensures done { (ring batch : ℕ) (streams : List StreamValue) (feeds : List (FeedValue S)) → IsOpenFor ring batch streams feeds self
+            → IsDone S.left S.faults S.mark ring batch streams feeds (K.held sink.old) (K.held sink.new) result }
+        ensures stopped { (ring batch : ℕ) (streams : List StreamValue) (feeds : List (FeedValue S)) → IsOpenFor ring batch streams feeds self
+            → IsStopped streams (K.held sink.old) (K.held sink.new) result }
+        ensures cause { result ≡ Outcome.WriteFault → Rose (K.write_faults sink.old) (K.write_faults sink.new) }
+        ensures later { K.write_faults sink.old ≤ K.write_faults sink.new }
+        ensures rest { K.rest sink.new ≡ K.rest sink.old }
+    {
+        let Recorder {
+            inlets,
+            room,
+            reports,
+            batch,
+        } = self;
+        let mut inlets = inlets;
+        match record(&mut inlets, sink, room, reports, batch) {
+            Ok(recorded) => Outcome::Done {
+                reports: recorded.reports,
+                bytes: recorded.bytes,
+                chunks: recorded.chunks,
+            },
+            Err(WriterFault::WriteFault) => Outcome::WriteFault,
+            Err(WriterFault::Memory) => Outcome::Memory,
+        }
+    }
+}

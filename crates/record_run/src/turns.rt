@@ -1,0 +1,169 @@
+//! The turns of a run, and its end.
+
+ghost use Rattle.std.specs.Prelude.{◌≡◌, ◌≤◌, ◌<◌, ◌++◌, ◌∷◌, ℕ, List, [], false, length, map, slice_get, vec_capacity, Some, None, Option, IsTrue, IfOk, IfErr, OnOk, OnErr, IsErrOf};
+ghost use Rattle.rec_base.specs.Causes.{Rose};
+ghost use Rattle.xdf_model.specs.Sample.{Sample as SampleValue};
+ghost use Rattle.recording_model.specs.declared.stream.StreamDoc.{StreamDoc as StreamValue};
+ghost use Rattle.record_run.specs.declared.feed.FeedSource.{FeedSource as FeedValue};
+ghost use Rattle.record_run.specs.Inlets.{InletView};
+ghost use Rattle.record_run.specs.Outcomes.{IsRecorded, IsCutOff};
+ghost use Rattle.record_run.specs.Recorders.{IsOpenFor, RecorderView};
+ghost use Rattle.record_run.specs.Turning.{AreTurned, HaveEnded, report_in};
+
+use crate::inlet::Inlet;
+use crate::passes::{drain_all, fill_all};
+use crate::report::{FeedReport, ReportList};
+use rec_base::{Sink, Source};
+use record_writer::{Lent, Writer, WriterFault, WriterRoom};
+
+// A turn that isn't the last takes at least one byte of a feed, of whose bytes 2^40 count.
+const MOST_TURNS: u64 = 1_099_511_627_777;
+
+// Whether every feed has ended.
+fn have_ended<S: Source>(inlets: &[Inlet<S>]) -> bool
+    ensures all { IsTrue result → HaveEnded inlets.now }
+    ensures some { result ≡ false → (p : ℕ) × (x : InletView S) × (slice_get inlets.now p ≡ Some x) × (x.end ≡ None) }
+{
+    for inlet in inlets {
+        if inlet.end().is_none() {
+            return false;
+        }
+    }
+    true
+}
+
+/// Writes the headers, and takes turns until every feed has ended.
+pub(crate) fn take_turns<S: Source, K: Sink>(
+    inlets: &mut [Inlet<S>],
+    writer: &mut Writer<'_, K>,
+    batch: u64,
+) -> Result<(), WriterFault>
+    requires ready { (ring : ℕ) × (streams : List StreamValue) × (feeds : List (FeedValue S))
+        × IsOpenFor ring batch streams feeds (record { inlets = inlets.old; desk = writer.old.room.desk; batch = batch }) }
+    ensures same_reference { writer.new.sink.ghost_name ≡ writer.old.sink.ghost_name }
+    ensures turned { (ring : ℕ) (streams : List StreamValue) (feeds : List (FeedValue S)) → IsOpenFor ring batch streams feeds (record { inlets = inlets.old; desk = writer.old.room.desk; batch = batch })
+        → OnOk result ((turns : ℕ) × (lists : List (List SampleValue))
+        × AreTurned S.left S.faults S.mark ring batch turns streams feeds (K.held writer.old.sink.now) (K.held writer.new.sink.now) writer.new.room.desk lists inlets.new) }
+    ensures ended { OnOk result (HaveEnded inlets.new) }
+    ensures count { OnOk result (length inlets.new ≡ length inlets.old) }
+    ensures cut { (ring : ℕ) (streams : List StreamValue) (feeds : List (FeedValue S)) → IsOpenFor ring batch streams feeds (record { inlets = inlets.old; desk = writer.old.room.desk; batch = batch })
+        → OnErr result (IsCutOff streams (K.held writer.old.sink.now) (K.held writer.new.sink.now)) }
+    ensures closed { OnOk result ((writer.new.room.desk.count ≡ 0) × (writer.new.room.desk.broken ≡ false)) }
+    ensures cause { IsErrOf result WriterFault.WriteFault → Rose (K.write_faults writer.old.sink.now) (K.write_faults writer.new.sink.now) }
+    ensures later { K.write_faults writer.old.sink.now ≤ K.write_faults writer.new.sink.now }
+    ensures rest { K.rest writer.new.sink.now ≡ K.rest writer.old.sink.now }
+{
+    writer.begin()?;
+    for _ in 0..MOST_TURNS {
+        fill_all(inlets, batch)?;
+        drain_all(inlets, writer)?;
+        if have_ended(inlets) {
+            return Ok(());
+        }
+    }
+    unreachable!()
+}
+
+// Appends a report where there is room for it.
+fn push_report(reports: &mut Vec<FeedReport>, report: FeedReport)
+    requires { length reports.old.items < vec_capacity reports.old }
+    ensures items { reports.new.items ≡ reports.old.items ++ report ∷ [] }
+    ensures room { vec_capacity reports.old ≤ vec_capacity reports.new }
+{
+    match reports.push(report) {
+        Ok(()) => {}
+        Err(_) => unreachable!(),
+    }
+}
+
+// What became of the feeds, into room that was made before.
+fn report_all<S: Source>(inlets: &[Inlet<S>], reports: &mut Vec<FeedReport>)
+    requires ended { HaveEnded inlets.now }
+    requires empty { reports.old.items ≡ [] }
+    requires room { length inlets.now ≤ vec_capacity reports.old }
+    ensures { reports.new.items ≡ map report_in inlets.now }
+{
+    for inlet in inlets {
+        let Some(end) = inlet.end() else {
+            unreachable!()
+        };
+        push_report(reports, inlet.report(end));
+    }
+}
+
+/// A recording that is whole: what became of its feeds, the file's size and its number of chunks.
+#[derive(Debug, Drop)]
+pub(crate) struct Recorded {
+    pub(crate) reports: ReportList,
+    pub(crate) bytes: u64,
+    pub(crate) chunks: u64,
+}
+
+/// Finishes the file, and tells what became of the feeds.
+pub(crate) fn finish<S: Source, K: Sink>(
+    inlets: &[Inlet<S>],
+    writer: Writer<'_, K>,
+    reports: Vec<FeedReport>,
+) -> Result<Recorded, WriterFault>
+    requires ended { HaveEnded inlets.now }
+    requires closed { writer.room.desk.count ≡ 0 }
+    requires whole { writer.room.desk.broken ≡ false }
+    requires empty { reports.items ≡ [] }
+    requires room { length inlets.now ≤ vec_capacity reports }
+    ensures done { (ring batch turns : ℕ) (streams : List StreamValue) (feeds : List (FeedValue S)) (base : Option (List ℕ)) (lists : List (List SampleValue)) → 1 ≤ ring → 1 ≤ batch
+        → AreTurned S.left S.faults S.mark ring batch turns streams feeds base (K.held writer.entry.sink.now) writer.entry.room.desk lists inlets.now
+        → IfOk result (λ r. IsRecorded S.left S.faults S.mark ring batch streams feeds base (K.held writer.exit.0.now) r.reports r.bytes r.chunks) }
+    ensures stopped { (ring batch turns : ℕ) (streams : List StreamValue) (feeds : List (FeedValue S)) (base : Option (List ℕ)) (lists : List (List SampleValue)) → 1 ≤ ring → 1 ≤ batch
+        → AreTurned S.left S.faults S.mark ring batch turns streams feeds base (K.held writer.entry.sink.now) writer.entry.room.desk lists inlets.now
+        → OnErr result (IsCutOff streams base (K.held writer.exit.0.now)) }
+    ensures fault { IfErr result (λ f. f ≡ WriterFault.WriteFault) }
+    ensures cause { OnErr result (Rose (K.write_faults writer.entry.sink.now) (K.write_faults writer.exit.0.now)) }
+    ensures later { K.write_faults writer.entry.sink.now ≤ K.write_faults writer.exit.0.now }
+    ensures rest { K.rest writer.exit.0.now ≡ K.rest writer.entry.sink.now }
+{
+    let mut reports = reports;
+    report_all(inlets, &mut reports);
+    let written = writer.finish()?;
+    Ok(Recorded {
+        reports: ReportList::from_vec(reports),
+        bytes: written.bytes,
+        chunks: written.chunks,
+    })
+}
+
+// Gives the room up, and the sink back as it is.
+fn let_go<K: Sink>(writer: Writer<'_, K>)
+    ensures { writer.exit.0.now ≡ writer.entry.sink.now }
+{
+    let _room = writer.room;
+}
+
+/// Records what the inlets get, into a sink that is lent.
+pub(crate) fn record<S: Source, K: Sink>(
+    inlets: &mut [Inlet<S>],
+    sink: &mut K,
+    room: WriterRoom,
+    reports: Vec<FeedReport>,
+    batch: u64,
+) -> Result<Recorded, WriterFault>
+    requires ready { (ring : ℕ) × (streams : List StreamValue) × (feeds : List (FeedValue S))
+        × IsOpenFor ring batch streams feeds (record { inlets = inlets.old; desk = room.desk; batch = batch }) }
+    requires empty { reports.items ≡ [] }
+    requires space { length inlets.old ≤ vec_capacity reports }
+    ensures done { (ring : ℕ) (streams : List StreamValue) (feeds : List (FeedValue S)) → IsOpenFor ring batch streams feeds (record { inlets = inlets.old; desk = room.desk; batch = batch })
+        → IfOk result (λ r. IsRecorded S.left S.faults S.mark ring batch streams feeds (K.held sink.old) (K.held sink.new) r.reports r.bytes r.chunks) }
+    ensures stopped { (ring : ℕ) (streams : List StreamValue) (feeds : List (FeedValue S)) → IsOpenFor ring batch streams feeds (record { inlets = inlets.old; desk = room.desk; batch = batch })
+        → OnErr result (IsCutOff streams (K.held sink.old) (K.held sink.new)) }
+    ensures cause { IsErrOf result WriterFault.WriteFault → Rose (K.write_faults sink.old) (K.write_faults sink.new) }
+    ensures later { K.write_faults sink.old ≤ K.write_faults sink.new }
+    ensures rest { K.rest sink.new ≡ K.rest sink.old }
+{
+    let mut writer = Lent::over(sink, room);
+    match take_turns(inlets, &mut writer, batch) {
+        Ok(()) => finish(inlets, writer, reports),
+        Err(fault) => {
+            let_go(writer);
+            Err(fault)
+        }
+    }
+}
