@@ -4,3 +4,4 @@ pub mod Passed
 pub mod Openings
 pub mod Torn
 pub mod Rooms
+pub mod Ahead

@@ -1,5 +1,6 @@
 -- What a reader of a file will still answer, step by step.
-use Rattle.std.proofs.Common.{◌≡◌, ℕ, ◌+◌, ◌≤◌, ◌<◌, List, [], false, length, Option, Some, refl, sym, ap, ◌∙◌, subst}
+use Rattle.std.proofs.Common.{◌≡◌, ℕ, ◌+◌, ◌≤◌, ◌<◌, List, [], ◌∷◌, false, length, Option, Some, refl, sym, ap, ◌∙◌, subst}
+use Rattle.std.proofs.lemmas.List.{append-nil}
 use Rattle.std.specs.Io.KnownBytes.{Consumes, IsAtEnd}
 use Rattle.reading_model.specs.Outlook.{ended, failed, Answered, Got, item, end, nothing, at_end}
 use Rattle.reading_model.specs.Reading.{Reading, going, done, outlook_of, coming_of}
@@ -15,7 +16,7 @@ use Rattle.file_model.specs.declared.next.Next.TheVariants.{Chunk, End, Torn, Ba
 use Rattle.file_model.specs.Reader.{FileState, ChunkAt, file_kind, file_rules, end_reading}
 use Rattle.file_reader.specs.declared.kept.Inner.TheVariants.{Answer}
 use Rattle.file_reader.specs.FileInlet.{FileInlet, IsGiven, end_in, got, outlook}
-use Rattle.file_reader.specs.Kept.{Does, IsGoing, TakesGot, with_reading}
+use Rattle.file_reader.specs.Kept.{Does, IsGoing, TakesGot, with_more, with_reading}
 use Rattle.file_reader.proofs.Steady.{steady_file}
 
 pub going_is : (x : Reading FileState FileEnd) → IsGoing x → (outlook_of file_rules x).is_over ≡ false
@@ -73,22 +74,31 @@ pub record Goes (old new : FileInlet) : Type 0 where
   pub going : IsGoing new.reading
   pub less : work new.reading < work old.reading
 
-pub piece_goes : (old new : FileInlet) (bytes : List ℕ) → Wants file_rules old.reading → (length bytes ≡ 0 → ⊥) → new ≡ with_reading old (gained bytes old.reading) → Goes old new
+pub piece_goes : (old new : FileInlet) (bytes : List ℕ) → Wants file_rules old.reading → (length bytes ≡ 0 → ⊥) → new ≡ with_more old bytes → Goes old new
 piece_goes old new bytes w some e = subst (λ (x : FileInlet). Goes old x) (sym e) (record {
   going = gained_going old.reading bytes w;
   less = work_gained file_rules old.reading bytes w some;
 })
 
-pub piece_carried : (old mid new : FileInlet) (a b c : Option (List ℕ)) (bytes : List ℕ) → Carried (outlook old) (outlook mid) a b → Wants file_rules mid.reading → Consumes b c bytes → new ≡ with_reading mid (gained bytes mid.reading)
+pub piece_carried : (old mid new : FileInlet) (a b c : Option (List ℕ)) (bytes : List ℕ) → Carried (outlook old) (outlook mid) a b → Wants file_rules mid.reading → Consumes b c bytes → new ≡ with_more mid bytes
     → Carried (outlook old) (outlook new) a c
 piece_carried old mid new a b c bytes k w lost e =
-    let next : FileInlet = with_reading mid (gained bytes mid.reading) in
+    let next : FileInlet = with_more mid bytes in
     let here : Carried (outlook old) (outlook next) a c =
     carried_read (outlook old) (outlook mid) (outlook next) a b c bytes k lost (going_is (gained bytes mid.reading) (gained_going mid.reading bytes w)) (λ more how. coming_gained file_rules mid.reading bytes more how) in
     subst (λ (x : FileInlet). Carried (outlook old) (outlook x) a c) (sym e) here
 
-pub piece_none : (mid new : FileInlet) (bytes : List ℕ) → length bytes ≡ 0 → new ≡ with_reading mid (gained bytes mid.reading) → new ≡ mid
-piece_none mid new bytes none e = e ∙ ap (with_reading mid) (none_gained mid.reading bytes none)
+more_none : (mid : FileInlet) (bytes : List ℕ) → length bytes ≡ 0 → with_more mid bytes ≡ mid
+more_none mid [] none =
+    ap (λ (r : Reading FileState FileEnd). with_reading (with_more mid []) r) (none_gained mid.reading [] none)
+    ∙ ap (λ (l : List ℕ). record { context = mid.context; place = mid.place; last = mid.last; ahead = l; reading = mid.reading; byte_limit = mid.byte_limit }) (append-nil mid.ahead)
+more_none mid (x ∷ bytes) none = absurd cc
+
+pub piece_none : (mid new : FileInlet) (bytes : List ℕ) → length bytes ≡ 0 → new ≡ with_more mid bytes → new ≡ mid
+piece_none mid new bytes none e = e ∙ more_none mid bytes none
+
+pub same_more : (old mid new : FileInlet) (bytes : List ℕ) → Same old mid → new ≡ with_more mid bytes → Same old new
+same_more old mid new bytes s e = subst (λ (x : FileInlet). Same old x) (sym e) (record { fresh = s.fresh; context = s.context; place = s.place; limit = s.limit })
 
 -- where more bytes are wanted, the state stays
 pub want_carried : (o here mid : FileInlet) (a b : Option (List ℕ)) → Carried (outlook o) (outlook here) a b → mid ≡ here → Carried (outlook o) (outlook mid) a b

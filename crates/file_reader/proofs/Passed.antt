@@ -20,6 +20,7 @@ seen ending context place last bytes limit = record {
   context = context;
   place = place;
   last = take last bytes;
+  ahead = drop last bytes;
   reading = reading_of ending (record { context = context; place = place }) (drop last bytes) (limit - place);
   byte_limit = limit;
 }

@@ -6,11 +6,11 @@ ghost use Rattle.rec_base.specs.Causes.{Rose};
 ghost use Rattle.reading_model.specs.Outlook.{ended};
 ghost use Rattle.reading_model.specs.Reading.{going, done};
 ghost use Rattle.piece_reader.specs.Held.{HeldBytes};
-ghost use Rattle.piece_reader.specs.Steps.{EndsAs, Wants, end_of, gained};
+ghost use Rattle.piece_reader.specs.Steps.{EndsAs, Wants, end_of};
 ghost use Rattle.chunk_grammar.specs.Chunk.{context_after};
 ghost use Rattle.file_model.specs.Reader.{behind_magic, end_reading, file_rules};
-ghost use Rattle.file_reader.specs.FileInlet.{FileInlet, IsHeld, StandsAt, end_in};
-ghost use Rattle.file_reader.specs.Kept.{Does, IsGoing, IsShort, with_reading, without_last};
+ghost use Rattle.file_reader.specs.FileInlet.{FileInlet, IsHeld, StandsAt, Tells, end_in, had_ended};
+ghost use Rattle.file_reader.specs.Kept.{Does, IsGoing, IsOfBytes, IsShort, Shows, with_more, with_reading, without_last};
 
 use crate::missing::missing;
 use chunk_decoder::{Step, read_chunk};
@@ -58,6 +58,7 @@ impl Model for KeptFile {
       context = k.context;
       place = k.place;
       last = take k.last k.held.bytes;
+      ahead = drop k.last k.held.bytes;
       reading = reading_of k.ending (record { context = k.context; place = k.place }) (drop k.last k.held.bytes) (k.byte_limit - k.place);
       byte_limit = k.byte_limit;
     } };
@@ -103,7 +104,7 @@ impl KeptFile {
         requires low { 4 ≤ byte_limit }
         requires high { byte_limit ≤ 2 ^ 40 }
         requires size { length magic.bytes ≡ 4 }
-        ensures value { result ≡ record { context = []; place = 4; last = []; reading = going behind_magic [] (byte_limit - 4); byte_limit = byte_limit } }
+        ensures value { result ≡ record { context = []; place = 4; last = []; ahead = []; reading = going behind_magic [] (byte_limit - 4); byte_limit = byte_limit } }
     {
         let mut held = magic;
         held.pass(4);
@@ -133,6 +134,26 @@ impl KeptFile {
         self.held.bytes().len()
     }
 
+    /// How many bytes of the file count, and how many were taken.
+    pub(crate) fn counts(&self) -> (u64, u64)
+        ensures limit { result.0 ≡ self.now.byte_limit }
+        ensures taken { result.1 ≡ self.now.place + length self.now.ahead }
+        ensures high { result.0 ≤ 2 ^ 40 }
+    {
+        let ahead = self.held.bytes().len() - self.last;
+        (self.byte_limit as u64, (self.place + ahead) as u64)
+    }
+
+    /// Whether the input ended before the end was answered.
+    pub(crate) fn had_ended(&self) -> bool
+        ensures { result ≡ had_ended self.now.reading }
+    {
+        matches!(
+            self.ending,
+            Some(FileEnd::End { .. } | FileEnd::Torn { .. })
+        )
+    }
+
     /// The streams whose headers were given.
     pub(crate) fn context(&self) -> &Context
         ensures { result.now ≡ self.now.context }
@@ -151,6 +172,7 @@ impl KeptFile {
     pub(crate) fn forget(&mut self)
         ensures forgotten { self.new ≡ without_last self.old }
         ensures stands { StandsAt self.new self.new.reading }
+        ensures high { self.new.byte_limit ≤ 2 ^ 40 }
     {
         self.held.pass(self.last);
         self.last = 0;
@@ -170,7 +192,10 @@ impl KeptFile {
     fn stop(&mut self, end: FileEnd) -> Inner
         requires ends { EndsAs file_rules self.old.reading end }
         requires fresh { self.old.last ≡ [] }
+        requires tells { Tells (with_reading self.old (done end)) (end_reading end) }
+        requires of_bytes { IsOfBytes (end_reading end) }
         ensures does { Does self.old self.new result }
+        ensures shows { Shows self.old self.new result }
         ensures stands { StandsAt self.new self.new.reading }
     {
         Inner::Answer(self.finish(end))
@@ -181,6 +206,7 @@ impl KeptFile {
         requires short { IsShort self.old.reading }
         requires fresh { self.old.last ≡ [] }
         ensures does { Does self.old self.new result }
+        ensures shows { Shows self.old self.new result }
         ensures stands { StandsAt self.new self.new.reading }
     {
         if self.held.bytes().len() - self.last > self.byte_limit - self.place {
@@ -195,6 +221,7 @@ impl KeptFile {
         requires going { IsGoing self.old.reading }
         requires fresh { self.old.last ≡ [] }
         ensures does { Does self.old self.new result }
+        ensures shows { Shows self.old self.new result }
         ensures stands { StandsAt self.new self.new.reading }
     {
         let place = self.place;
@@ -221,7 +248,8 @@ impl KeptFile {
 
     /// The end where no byte is left.
     pub(crate) fn end_input(&mut self) -> Next
-        requires { IsGoing self.old.reading }
+        requires { Wants file_rules self.old.reading }
+        ensures tells { Tells self.new result }
         ensures value { result ≡ end_reading (end_of file_rules self.old.reading ended) }
         ensures over { self.new ≡ with_reading self.old (done (end_of file_rules self.old.reading ended)) }
         ensures stands { StandsAt self.new self.new.reading }
@@ -237,10 +265,13 @@ impl KeptFile {
 
     /// The end where a read failed.
     pub(crate) fn fail(&mut self) -> Next
+        requires { Wants file_rules self.old.reading }
         ensures value { result ≡ Next.ReadFault }
+        ensures tells { Tells self.new result }
         ensures over { self.new ≡ with_reading self.old (done FileEnd.ReadFault) }
         ensures stands { StandsAt self.new self.new.reading }
     {
+        let _ = &self.alloc;
         self.finish(FileEnd::ReadFault)
     }
 
@@ -249,7 +280,7 @@ impl KeptFile {
     pub(crate) fn take_piece<S: Source>(&mut self, source: &mut S) -> Result<usize, PieceFault>
         requires wants { Wants file_rules self.old.reading }
         requires fresh { self.old.last ≡ [] }
-        ensures gains { IfOk result (λ n. (bytes : List ℕ) × Consumes (S.left source.old) (S.left source.new) bytes × (length bytes ≡ n) × (self.new ≡ with_reading self.old (gained bytes self.old.reading))) }
+        ensures gains { IfOk result (λ n. (bytes : List ℕ) × Consumes (S.left source.old) (S.left source.new) bytes × (length bytes ≡ n) × (self.new ≡ with_more self.old bytes)) }
         ensures end { IfOk result (λ n. n ≡ 0 → IsAtEnd (S.left source.new)) }
         ensures kept { OnErr result (self.new ≡ self.old) }
         ensures left { OnErr result (Keeps (S.left source.old) (S.left source.new)) }

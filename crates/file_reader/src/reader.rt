@@ -1,6 +1,6 @@
 //! The chunks of a file, from a source.
 
-ghost use Rattle.std.specs.Prelude.{◌≡◌, ◌≤◌, ◌<◌, ◌-◌, ◌^◌, ℕ, List, [], length, IsTrue, false, IfOk, OnOk, IsErrOf};
+ghost use Rattle.std.specs.Prelude.{◌≡◌, ◌≤◌, ◌<◌, ◌+◌, ◌-◌, ◌^◌, ℕ, List, [], length, None, Some, IsTrue, false, IfOk, OnOk, IsErrOf};
 ghost use Rattle.std.specs.Io.KnownBytes.{Consumes, IsAtEnd};
 ghost use Rattle.rec_base.specs.Causes.{Rose};
 ghost use Rattle.rec_base.specs.Known.{Loses};
@@ -8,11 +8,14 @@ ghost use Rattle.rec_base.specs.Moved.{HasFailed};
 ghost use Rattle.reading_model.specs.Outlook.{Answered, How};
 ghost use Rattle.chunk_grammar.specs.Chunk.{magic};
 ghost use Rattle.file_model.specs.Reader.{file_counted, file_kind};
-ghost use Rattle.file_reader.specs.FileInlet.{IsGiven, IsHeld, IsNotXdf, IsSameEnd, StandsAt, got, outlook};
+ghost use Rattle.file_reader.specs.FileInlet.{HasStopped, IsGiven, IsHeld, IsNotXdf, IsSameEnd, IsSkipped, KeepsAll, StandsAt, Stops, Tells, got, had_ended, outlook};
+ghost use Rattle.file_reader.specs.declared.rest.Rest.{Rest as RestValue};
 ghost use Rattle.file_reader.specs.Kept.{IsGoing, without_last};
 
 use crate::fault::FileFault;
 use crate::kept::{Inner, KeptFile, PIECE, next_of};
+use crate::rest::Rest;
+use crate::skip::skip_source;
 use chunk_grammar::Context;
 use file_model::Next;
 use piece_reader::{Held, PieceFault};
@@ -25,6 +28,8 @@ use std::alloc::Global;
 pub struct FileReader<S: Source> {
     source: S,
     file: KeptFile,
+    // what came of reading on behind the last chunk, once that was done
+    skipped: Option<Rest>,
 }
 
 // Takes the first four bytes of a source, or all where there are fewer.
@@ -63,6 +68,7 @@ impl<S: Source + Drop> FileReader<S> {
         ensures all { IfOk result (λ r. (more : List ℕ) (how : How) → (outlook r.file).coming more how ≡ file_counted (byte_limit - 4) more how) }
         ensures fresh { IfOk result (λ r. ((outlook r.file).is_over ≡ false) × (r.file.context ≡ []) × (r.file.place ≡ 4) × (r.file.last ≡ []) × (r.file.byte_limit ≡ byte_limit)) }
         ensures stands { IfOk result (λ r. StandsAt r.file r.file.reading) }
+        ensures start { IfOk result (λ r. (r.file.ahead ≡ []) × (r.skipped ≡ None)) }
         ensures source { IfOk result (λ r. (S.mark r.source ≡ S.mark source) × (S.faults source ≤ S.faults r.source)) }
         ensures not_xdf { IsErrOf result FileFault.NotXdf → (last : S) × IsNotXdf (S.left source) (S.left last) }
         ensures read_fault { IsErrOf result FileFault.ReadFault → (last : S) × HasFailed S.left S.faults S.mark source last }
@@ -80,7 +86,11 @@ impl<S: Source + Drop> FileReader<S> {
             return Err(FileFault::NotXdf);
         }
         let file = KeptFile::behind_magic(alloc, held, byte_limit as usize);
-        Ok(FileReader { source, file })
+        Ok(FileReader {
+            source,
+            file,
+            skipped: None,
+        })
     }
 }
 
@@ -104,6 +114,12 @@ impl<S: Source> FileReader<S> {
         ensures later { S.faults self.old.source ≤ S.faults self.new.source }
         ensures marked { S.mark self.new.source ≡ S.mark self.old.source }
         ensures left { Loses (S.left self.old.source) (S.left self.new.source) }
+        // no byte is lost between the chunks, and an end tells what stands there
+        ensures keeps { KeepsAll (S.left self.old.source) (S.left self.new.source) self.old.file self.new.file }
+        ensures tells { (outlook self.old.file).is_over ≡ false → Tells self.new.file result }
+        ensures stops { (outlook self.old.file).is_over ≡ false → Stops (S.left self.new.source) self.new.file result }
+        ensures high { self.new.file.byte_limit ≤ 2 ^ 40 }
+        ensures skipped { self.new.skipped ≡ self.old.skipped }
     {
         self.file.forget();
         match self.file.ended() {
@@ -116,6 +132,10 @@ impl<S: Source> FileReader<S> {
     fn read_on(&mut self) -> Next
         requires going { IsGoing self.old.file.reading }
         requires fresh { self.old.file.last ≡ [] }
+        ensures keeps { KeepsAll (S.left self.old.source) (S.left self.new.source) self.old.file self.new.file }
+        ensures tells { Tells self.new.file result }
+        ensures stops { Stops (S.left self.new.source) self.new.file result }
+        ensures skipped { self.new.skipped ≡ self.old.skipped }
         ensures answer { Answered file_kind (outlook self.old.file) (outlook self.new.file) (S.left self.old.source) (S.left self.new.source) (got result) }
         ensures chunk { IsGiven self.old.file self.new.file result }
         ensures limit { self.new.file.byte_limit ≡ self.old.file.byte_limit }
@@ -135,6 +155,40 @@ impl<S: Source> FileReader<S> {
                 },
             }
         }
+    }
+
+    /// Reads the input to its end, where `next` has answered `End`, `Torn` or `Bad`, and keeps nothing. It
+    /// takes no memory, and reads no more than one byte past the limit. Behind `End` and `Torn` the input
+    /// has ended, so there it reads nothing.
+    ///
+    /// `End` comes exactly where the input ended within the limit; its size is the number of all bytes of
+    /// the input, the magic's among them. `SizeLimit` comes exactly where a byte past the limit was read,
+    /// by this call or before. `ReadFault` comes only where a read failed in the call that first answers
+    /// it. Each further call answers the same and reads nothing, and so does `next`.
+    pub fn skip_rest(&mut self) -> Rest
+        requires stopped { HasStopped (S.left self.old.source) self.old.file self.old.file.reading }
+        ensures first { self.old.skipped ≡ None → IsSkipped (S.left self.old.source) (S.left self.new.source) (had_ended self.old.file.reading) (self.old.file.place + length self.old.file.ahead) self.old.file.byte_limit result }
+        ensures cause { self.old.skipped ≡ None → result ≡ Rest.ReadFault → Rose (S.faults self.old.source) (S.faults self.new.source) }
+        ensures ended { IsTrue (had_ended self.old.file.reading) → self.new.source ≡ self.old.source }
+        ensures again { (rest : RestValue) → self.old.skipped ≡ Some rest → (result ≡ rest) × (self.new.source ≡ self.old.source) }
+        ensures skipped { self.new.skipped ≡ Some result }
+        ensures file { self.new.file ≡ self.old.file }
+        ensures stopped { HasStopped (S.left self.new.source) self.new.file self.new.file.reading }
+        ensures later { S.faults self.old.source ≤ S.faults self.new.source }
+        ensures marked { S.mark self.new.source ≡ S.mark self.old.source }
+        ensures left { Loses (S.left self.old.source) (S.left self.new.source) }
+    {
+        if let Some(rest) = self.skipped {
+            return rest;
+        }
+        let (limit, taken) = self.file.counts();
+        let rest = if self.file.had_ended() {
+            Rest::End { size: taken }
+        } else {
+            skip_source(&mut self.source, taken, limit)
+        };
+        self.skipped = Some(rest);
+        rest
     }
 
     /// The bytes of the chunk that the last call of `next` gave. There are none where it gave no chunk,

@@ -1,3 +1,7 @@
+ghost use Rattle.std.specs.Prelude.{Some};
+ghost use Rattle.rec_base.specs.MemSource.{bytes_left};
+ghost use Rattle.file_reader.specs.FileInlet.{HasStopped};
+
 use super::*;
 use chunk_grammar::tag_of_chunk;
 use rec_base::{Blob, Failed, MemSource, Piece, Source};
@@ -231,5 +235,51 @@ fn small_chunks_come_one_by_one(rt: HostRuntime) -> Result<(), Fail> {
     assert_eq!(rt; chunks, 1000);
     let end = reader.next();
     assert!(rt; matches!(end, Next::End { at: 4004 }));
+    Ok(())
+}
+
+// What comes of reading on, if the same comes of it twice.
+fn rest_twice(reader: &mut FileReader<MemSource>) -> Option<Rest>
+    requires { HasStopped (Some (bytes_left reader.old.source)) reader.old.file reader.old.file.reading }
+{
+    let rest = reader.skip_rest();
+    let again = reader.skip_rest();
+    (rest == again).then_some(rest)
+}
+
+// The same behind the first answer, where that is an end, a torn chunk or a bad one.
+fn rest_of(alloc: Global, source: MemSource, limit: u64) -> Option<Rest> {
+    let Ok(mut reader) = FileReader::open(alloc, source, limit.clamp(4, 4096)) else {
+        return None;
+    };
+    match reader.next() {
+        Next::End { .. } => rest_twice(&mut reader),
+        Next::Torn { .. } => rest_twice(&mut reader),
+        Next::Bad { .. } => rest_twice(&mut reader),
+        _ => None,
+    }
+}
+
+#[test]
+fn an_input_is_read_on_to_its_end(rt: HostRuntime) -> Result<(), Fail> {
+    let rows: [(&[u8], u64, Option<Rest>); 7] = [
+        (b"XDF:", 4, Some(Rest::End { size: 4 })),
+        (b"XDF:\x01\x02\x07", 7, Some(Rest::End { size: 7 })),
+        (b"XDF:\x02", 5, Some(Rest::End { size: 5 })),
+        (UNKNOWN_STREAM, 17, Some(Rest::End { size: 17 })),
+        (b"XDF:\x02 and nine bytes", 19, Some(Rest::SizeLimit)),
+        (b"XDF:\x02 and nine bytes", 20, Some(Rest::End { size: 20 })),
+        (b"XDF:\x01\x02\x07", 6, None),
+    ];
+    for (file, limit, want) in rows {
+        for piece in [1, 575] {
+            let source = source_of(rt.alloc(), file, piece)?;
+            assert!(rt; rest_of(rt.alloc(), source, limit) == want);
+        }
+    }
+    let front = Piece::Give(Blob::from_bytes(rt.alloc(), b"XDF:\x02")?);
+    let rest = Piece::Give(Blob::from_bytes(rt.alloc(), b"!")?);
+    let source = MemSource::new(vec![in rt.alloc(); front, Piece::Fail, rest]?);
+    assert!(rt; rest_of(rt.alloc(), source, 9) == Some(Rest::ReadFault));
     Ok(())
 }

@@ -2,7 +2,15 @@ use Rattle.std.proofs.Common.{◌∙◌, ◌-◌, ℕ, List, take, drop, ap, ref
 use Rattle.std.proofs.lemmas.List.{take_rest}
 use Rattle.piece_reader.specs.Held.{HeldBytes}
 use Rattle.file_reader.proofs.Passed.{chunk_passed}
+use Rattle.file_reader.proofs.Ahead.{bad_told}
 use Rattle.file_reader.proofs.kept.KeptFile.step.Goals as goal
+
+pub stop-requires-clause-tells : goal.stop-requires-clause-tells
+stop-requires-clause-tells c =
+    let i = c.self.inside in
+    let count = i.byte_limit - i.place in
+    let seen = rw take_rest at c.counted-bytes.ensures ∙ ap (λ (b : List ℕ). take count (drop i.last b)) c.bytes.ensures in
+    bad_told c.args.self.now i.ending i.context i.place i.last i.held.bytes i.byte_limit c.in-Bad.at c.in-Bad.why c.counted-bytes.result.now c.self.view_is seen c.in-Bad.ensures.exact
 
 pub returns-else-not-pass_chunk-clause-does : goal.returns-else-not-pass_chunk-clause-does
 returns-else-not-pass_chunk-clause-does c =

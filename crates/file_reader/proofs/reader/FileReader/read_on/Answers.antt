@@ -1,6 +1,7 @@
 use Rattle.std.proofs.Common.{arith, rules, sym, ◌∙◌}
 use Rattle.piece_reader.proofs.Carrying.{carried_kept}
-use Rattle.file_reader.proofs.Outlooks.{answered_step, piece_goes, piece_carried, piece_none, want_carried, want_wants, same_here, same_reading, answered_end, answered_fault}
+use Rattle.file_reader.proofs.Outlooks.{answered_step, piece_goes, piece_carried, piece_none, want_carried, want_wants, same_here, same_more, answered_end, answered_fault}
+use Rattle.file_reader.proofs.Ahead.{took_more}
 use Rattle.file_reader.proofs.reader.FileReader.read_on.Goals as goal
 
 pub returns-in-Answer-clause-answer : goal.returns-in-Answer-clause-answer
@@ -30,7 +31,9 @@ pieces-preserved g c =
     record {
       carried = piece_carried start mid new _ _ _ gains.0 (want_carried start c.pieces.self.file mid _ _ c.pieces.invariant.carried same) wants gains.1 gains.3;
       going = (piece_goes mid new gains.0 wants (λ none. c.in-Ok.field-0-test.1 (sym gains.2 ∙ none)) gains.3).going;
-      same = same_reading start mid new _ (same_here start c.pieces.self.file mid c.pieces.invariant.same same) gains.3;
+      took = took_more _ _ _ start.ahead gains.0 c.pieces.self.file mid new c.pieces.invariant.took same gains.1 gains.3;
+      skipped = search rules;
+      same = same_more start mid new _ (same_here start c.pieces.self.file mid c.pieces.invariant.same same) gains.3;
       later = omega arith;
       marked = search rules;
     }
