@@ -1,0 +1,19 @@
+use Rattle.std.proofs.Common.{◌≡◌, ◌≤◌, ◌-◌, false, None}
+use Rattle.file_reader.specs.FileInlet.{outlook}
+use Rattle.xdf_repair.specs.Copying.{IsCopied}
+use Rattle.xdf_repair.proofs.copied.copy_chunks.Given as goal
+
+abbrev pub invariant-chunks : goal.invariant-chunks
+invariant-chunks g l = record {
+  copied : IsCopied (g.S.Source.left l.fn.reader.source) (g.S.Source.left l.reader.source) (g.K.Sink.held l.fn.sink) (g.K.Sink.held l.sink) l.reader.file l.chunks l.bytes;
+  goes : (outlook l.reader.file).is_over ≡ false;
+  limit : l.reader.file.byte_limit ≡ l.fn.reader.file.byte_limit;
+  skipped : l.reader.skipped ≡ None;
+  read_later : g.S.Source.faults l.fn.reader.source ≤ g.S.Source.faults l.reader.source;
+  write_later : g.K.Sink.write_faults l.fn.sink ≤ g.K.Sink.write_faults l.sink;
+  marked : g.S.Source.mark l.reader.source ≡ g.S.Source.mark l.fn.reader.source;
+  rest : g.K.Sink.rest l.sink ≡ g.K.Sink.rest l.fn.sink;
+}
+
+abbrev pub decreases-chunks : goal.decreases-chunks
+decreases-chunks g l = l.reader.file.byte_limit - l.reader.file.place
