@@ -2,8 +2,11 @@
 //! them, worked out by hand.
 //!
 //! The vectors are the tables of this crate's tests, over the decoder, the encoder and the pattern of
-//! documents together. The crate has no code of its own yet.
+//! documents together. Beside them stand the feeds of the drill, whose every byte is known; `drill_feeds`
+//! makes them.
 #![tactic(auto)]
+
+pub use drill_feeds::{drill_doc, drill_feed};
 
 #[cfg(test)]
 mod documents;
