@@ -1,0 +1,5 @@
+pub mod Ends
+pub mod Kept
+pub mod Survey
+pub mod Telling
+pub mod Steps
