@@ -1,36 +1,21 @@
-//! The lab recorder: `record PLAN OUT` and `show FILE`.
+//! The lab recorder: `record PLAN OUT`, and `show`, `check`, `repair` and `drill`.
 #![tactic(auto)]
 
-ghost use Rattle.std.specs.Prelude.{◌≡◌, ◌≢◌};
+ghost use Rattle.std.specs.Prelude.{◌≡◌, ◌≢◌, IsTrue, false};
 ghost use Rattle.std.specs.IoError.{error_kind};
 ghost use Rattle.record_cli.specs.Words.{starts_record};
+ghost use Rattle.record_cli.specs.Statuses.{lost_status};
 ghost use Rattle.std.specs.declared.io.ErrorKind.TheVariants.{InvalidData};
 
-mod bytes;
-mod end;
-mod fault;
-mod feed;
-mod file;
-mod input;
-mod output;
-mod plan;
 mod real_dock;
 mod real_source;
 #[cfg(test)]
 mod real_tests;
-mod record;
-mod show;
-mod show_fault;
-#[cfg(test)]
-mod show_tests;
-#[cfg(test)]
-mod tests;
-mod words;
 
-use file::file_main;
+use file_call::file_main;
 use real_dock::RealDock;
 use rec_base::Word;
-use record::record_main;
+use record_call::record_main;
 use std::alloc::Global;
 use std::env::{self, Env};
 use std::io;
@@ -70,16 +55,29 @@ fn is_record(words: &[Word]) -> bool
     }
 }
 
+// The status, once all lines are out: a line of the work that is lost is one that couldn't be said.
+fn told_status(status: u8, told: bool) -> u8
+    ensures told { IsTrue told → result ≡ status }
+    ensures lost { told ≡ false → result ≡ lost_status status }
+{
+    match status {
+        0 | 1 | 6 if !told => 8,
+        _ => status,
+    }
+}
+
 fn main(rt: HostRuntime) -> ExitCode {
     match command_words(&rt) {
         Ok(words) => {
             let alloc: Global = rt.alloc();
-            let mut dock = RealDock::new(rt);
-            ExitCode::from(if is_record(&words) {
+            let mut dock = RealDock::new(alloc, rt);
+            let status = if is_record(&words) {
                 record_main(alloc, &words, &mut dock)
             } else {
                 file_main(alloc, &words, &mut dock)
-            })
+            };
+            let told = dock.flush().is_ok();
+            ExitCode::from(told_status(status, told))
         }
         Err(fault) => ExitCode::from(unread_status(&fault)),
     }

@@ -2,10 +2,11 @@
 
 ghost use Rattle.std.specs.Prelude.{◌≤◌, ◌<◌, ◌<ℤ◌, pos, length, IfSome};
 ghost use Rattle.std.specs.Fd.{file_raw_fd};
-ghost use Rattle.rec_base.specs.Causes.{Rose};
+ghost use Rattle.rec_base.specs.Causes.{HasCause, Rose};
 
 use crate::real_source::RealSource;
 use rec_base::{Dock, Failed, Lines, Name, Sink, Word};
+use std::alloc::Global;
 use std::fs::{self, File};
 use std::io::Write;
 use std::os::fd::AsRawFd;
@@ -14,12 +15,17 @@ use std::rt::Files;
 // The number of standard error.
 const LAST_STREAM: i32 = 2;
 
-/// Files, and standard output for the lines, each of which is out when it is said. It tells none
-/// of their bytes, and counts what failed.
+// How many bytes of lines may wait before they go out together.
+const MOST_WAITING: usize = 65_536;
+
+/// Files, and standard output for the lines, which go out together, at the latest at `flush`. It tells
+/// none of their bytes, and counts what failed.
 #[derive(Drop)]
 pub(crate) struct RealDock<R: Files<File = File> + Print + Drop> {
     rt: R,
     output: Option<File>,
+    // lines that were said and aren't out yet
+    waiting: String,
     open_faults: u64,
     write_faults: u64,
     print_faults: u64,
@@ -27,13 +33,26 @@ pub(crate) struct RealDock<R: Files<File = File> + Print + Drop> {
 
 impl<R: Files<File = File> + Print + Drop> RealDock<R> {
     /// A dock that has created nothing.
-    pub(crate) fn new(rt: R) -> RealDock<R> {
+    pub(crate) fn new(alloc: Global, rt: R) -> RealDock<R> {
         RealDock {
             rt,
             output: None,
+            waiting: String::new(alloc),
             open_faults: 0,
             write_faults: 0,
             print_faults: 0,
+        }
+    }
+
+    /// Puts out the lines that wait. `Failed` comes where standard output doesn't take them all; they are
+    /// gone then.
+    pub(crate) fn flush(&mut self) -> Result<(), Failed>
+        ensures cause { HasCause self.old.print_faults self.new.print_faults result }
+    {
+        if put_out(&self.rt, &mut self.waiting) {
+            Ok(())
+        } else {
+            Err(fail(&mut self.print_faults))
         }
     }
 }
@@ -71,11 +90,13 @@ impl<R: Files<File = File> + Print + Drop> Lines for RealDock<R> {
 
     ghost rest = { λ d. record { contents = None; target = None; held = None; open_faults = d.open_faults; write_faults = d.write_faults } };
 
-    /// Answers `Failed` where standard output doesn't take the whole line.
+    /// Answers `Failed` where standard output doesn't take the lines that waited before this one, or,
+    /// where this one can't wait, not all of it.
     fn say(&mut self, line: &str) -> Result<(), Failed> {
-        match self.rt.println(line) {
-            Ok(()) => Ok(()),
-            Err(_) => Err(fail(&mut self.print_faults)),
+        if say_in(&self.rt, &mut self.waiting, line) {
+            Ok(())
+        } else {
+            Err(fail(&mut self.print_faults))
         }
     }
 }
@@ -130,6 +151,33 @@ impl<R: Files<File = File> + Print + Drop> Dock for RealDock<R> {
     ghost say_keeps_open_faults = { λ d e h. ap (λ (r : BesideLines). r.open_faults) h };
 
     ghost say_keeps_write_faults = { λ d e h. ap (λ (r : BesideLines). r.write_faults) h };
+}
+
+// Puts out the lines that wait, and says whether standard output took them.
+fn put_out<R: Print>(rt: &R, waiting: &mut String) -> bool {
+    let out = waiting.is_empty() || rt.print(waiting.as_str()).is_ok();
+    waiting.clear();
+    out
+}
+
+// Lets a line wait, where there is memory for it.
+fn keep_line(waiting: &mut String, line: &str) -> bool {
+    if waiting.reserve(line.len().saturating_add(1)).is_err() {
+        return false;
+    }
+    waiting.push_str(line).is_ok() && waiting.push('\n').is_ok()
+}
+
+// Lets a line wait, or puts it out where it can't, behind those that wait; and says whether none was
+// lost.
+fn say_in<R: Print>(rt: &R, waiting: &mut String, line: &str) -> bool {
+    if line.len() >= MOST_WAITING.saturating_sub(waiting.len()) && !put_out(rt, waiting) {
+        return false;
+    }
+    if line.len() < MOST_WAITING && keep_line(waiting, line) {
+        return true;
+    }
+    put_out(rt, waiting) && rt.println(line).is_ok()
 }
 
 // Counts a failure.

@@ -15,7 +15,7 @@ fn file(alloc: Global, path: &str) -> Result<Name, Fail> {
 #[test]
 fn files_are_read(rt: HostRuntime) -> Result<(), Fail> {
     let alloc: Global = rt.alloc();
-    let mut dock = RealDock::new(rt.clone()?);
+    let mut dock = RealDock::new(alloc, rt.clone()?);
     // A folder opens, and refuses to be read.
     for (path, want) in [
         ("/dev/zero", Ok(4)),
@@ -41,7 +41,7 @@ fn files_are_read(rt: HostRuntime) -> Result<(), Fail> {
 #[test]
 fn files_are_written(rt: HostRuntime) -> Result<(), Fail> {
     let alloc: Global = rt.alloc();
-    let mut dock = RealDock::new(rt.clone()?);
+    let mut dock = RealDock::new(alloc, rt.clone()?);
     assert_eq!(rt; dock.write(b"ab"), Err(Failed));
     for (path, created, wrote) in [
         ("/dev/null", Ok(()), Ok(2)),
@@ -57,7 +57,7 @@ fn files_are_written(rt: HostRuntime) -> Result<(), Fail> {
 #[test]
 fn a_file_holds_what_was_written_last(rt: HostRuntime) -> Result<(), Fail> {
     let alloc: Global = rt.alloc();
-    let mut dock = RealDock::new(rt.clone()?);
+    let mut dock = RealDock::new(alloc, rt.clone()?);
     for text in ["abcd", "ef"] {
         dock.create(&word(alloc, "real_tests_file")?)?;
         assert_eq!(rt; dock.write(text.as_bytes()), Ok(text.len()));

@@ -1,0 +1,53 @@
+//! An input that is read whole.
+
+ghost use Rattle.std.specs.Prelude.{◌≡◌, ◌≤◌, ◌<◌, ◌⊎◌, List, ℕ, length, Some, IfOk, OnErr, IsErrOf};
+ghost use Rattle.rec_base.specs.Causes.{Rose};
+ghost use Rattle.rec_base.specs.Contents.{Opens, IsInput, IsOpened};
+ghost use Rattle.rec_base.specs.Moved.{HasFailed};
+ghost use Rattle.rec_base.specs.declared.name.Name.{Name as NameValue};
+ghost use Rattle.dock_calls.specs.Inputs.{KeepsOthers};
+
+use crate::fault::InputFault;
+use rec_base::{Blob, DocFault, Dock, Failed, Lines, Name, Sink, Source, Word, read_document};
+use std::alloc::Global;
+
+/// Opens the file at this path and reads it to its end, if it has no more than `limit` bytes.
+///
+/// Where contents are told, the text is the first one at the path, which is then taken off.
+/// `TooLong` comes only where the file is longer than the limit, `Open` where the opening or a read of
+/// the source that was opened failed, `Memory` for want of memory alone. This project's own.
+pub fn read_input<D: Dock>(
+    alloc: Global,
+    dock: &mut D,
+    name: &Word,
+    limit: u64,
+) -> Result<Blob, InputFault>
+    ensures text { IfOk result (λ text. Opens (D.contents dock.old) (D.contents dock.new) (NameValue.File name.now) (Some text) × (length text ≤ limit)) }
+    ensures too_long { IsErrOf result InputFault.TooLong → (text : List ℕ) × IsInput (D.contents dock.old) (NameValue.File name.now) 0 text × (limit < length text) }
+    ensures failed { IsErrOf result InputFault.Open → Rose (D.open_faults dock.old) (D.open_faults dock.new)
+        ⊎ ((first : D.Source) × (last : D.Source) × IsOpened (D.contents dock.old) (NameValue.File name.now) 0 (D.Source.left first)
+        × HasFailed D.Source.left D.Source.faults D.Source.mark first last) }
+    ensures none_else { OnErr result (IsErrOf result InputFault.TooLong ⊎ IsErrOf result InputFault.Open ⊎ IsErrOf result InputFault.Memory) }
+    ensures others { KeepsOthers (D.contents dock.old) (D.contents dock.new) (NameValue.File name.now) }
+    ensures later { D.open_faults dock.old ≤ D.open_faults dock.new }
+    ensures target { D.target dock.new ≡ D.target dock.old }
+    ensures held { D.held dock.new ≡ D.held dock.old }
+    ensures printed { D.printed dock.new ≡ D.printed dock.old }
+    ensures write_faults { D.write_faults dock.new ≡ D.write_faults dock.old }
+    ensures print_faults { D.print_faults dock.new ≡ D.print_faults dock.old }
+{
+    let word = match Word::from_bytes(alloc, name.bytes()) {
+        Ok(word) => word,
+        Err(_) => return Err(InputFault::Memory),
+    };
+    let mut source = match dock.open(&Name::File(word)) {
+        Ok(source) => source,
+        Err(Failed) => return Err(InputFault::Open),
+    };
+    match read_document(alloc, &mut source, limit) {
+        Ok(text) => Ok(text),
+        Err(DocFault::TooLong) => Err(InputFault::TooLong),
+        Err(DocFault::ReadFault) => Err(InputFault::Open),
+        Err(DocFault::Memory) => Err(InputFault::Memory),
+    }
+}

@@ -1,0 +1,7 @@
+mod Completes
+mod Drills
+mod Ends
+mod Files
+mod Kept
+mod Repairs
+mod Words

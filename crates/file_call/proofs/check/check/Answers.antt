@@ -1,0 +1,52 @@
+use Rattle.std.proofs.Common.{rules, refl, inl, inr, subst}
+use Rattle.std.specs.Io.KnownBytes.{Appends}
+use Rattle.file_model.specs.declared.end.FileEnd.{FileEnd}
+use Rattle.report_model.specs.Check.{check_lines}
+use Rattle.report_model.specs.Shown.{printed_lines}
+use Rattle.file_call.specs.Files.{IsFileOf}
+use Rattle.file_call.proofs.Ends.{nothing_noted, something_noted, check_read_end, check_limit_end}
+use Rattle.file_call.proofs.Files.{file_of, checked_from}
+use Rattle.file_call.proofs.Kept.{appends_from, appends_front_from, some_from, rose_from}
+use Rattle.file_call.proofs.check.check.Goals as goal
+
+pub returns-in-Done-default-eq0-clause-checked : goal.returns-in-Done-default-eq0-clause-checked
+returns-in-Done-default-eq0-clause-checked g c =
+    let s = c.in-Done-default-eq0.ensures.checked refl in
+    (s.0, s.1, nothing_noted (s.0, s.1) c.in-Done-default-eq0.chunks c.in-Done-default-eq0.notes (search rules) s.2, file_of c.in-Ok.ensures.begun _ s.0 s.1 s.3, appends_from _ _ _ _ c.in-Ok.ensures.printed s.4)
+
+pub returns-in-Done-clause-checked : goal.returns-in-Done-clause-checked
+returns-in-Done-clause-checked g c =
+    let s = c.in-Done.ensures.checked refl in
+    (s.0, s.1, something_noted (s.0, s.1) c.in-Done.chunks c.in-Done.notes (search rules) s.2, file_of c.in-Ok.ensures.begun _ s.0 s.1 s.3, appends_from _ _ _ _ c.in-Ok.ensures.printed s.4)
+
+pub returns-in-ReadFault-clause-read : goal.returns-in-ReadFault-clause-read
+returns-in-ReadFault-clause-read g c = λ _.
+    let s = c.in-ReadFault.ensures.checked refl in
+    let F : FileEnd → Type 0 = λ e. IsFileOf g.D.Source.Source.left g.D.Source.Source.faults g.D.Source.Source.mark (g.D.Dock.contents c.args.dock.now) c.args.name.now s.0 e in
+    let P : FileEnd → Type 0 = λ e. Appends (g.D.Lines.printed c.args.dock.now) (g.D.Lines.printed c.check_file.new.lines) (printed_lines (check_lines (s.0, e))) in
+    let is = check_read_end (s.0, s.1) s.2 in
+    (s.0, subst F is (file_of c.in-Ok.ensures.begun _ s.0 s.1 s.3), subst P is (appends_from _ _ _ _ c.in-Ok.ensures.printed s.4))
+
+pub returns-in-SizeLimit-clause-size_limit : goal.returns-in-SizeLimit-clause-size_limit
+returns-in-SizeLimit-clause-size_limit g c = λ _.
+    let s = c.in-SizeLimit.ensures.checked refl in
+    let F : FileEnd → Type 0 = λ e. IsFileOf g.D.Source.Source.left g.D.Source.Source.faults g.D.Source.Source.mark (g.D.Dock.contents c.args.dock.now) c.args.name.now s.0 e in
+    let P : FileEnd → Type 0 = λ e. Appends (g.D.Lines.printed c.args.dock.now) (g.D.Lines.printed c.check_file.new.lines) (printed_lines (check_lines (s.0, e))) in
+    let is = check_limit_end (s.0, s.1) s.2 in
+    (s.0, subst F is (file_of c.in-Ok.ensures.begun _ s.0 s.1 s.3), subst P is (appends_from _ _ _ _ c.in-Ok.ensures.printed s.4))
+
+pub returns-in-PrintFault-clause-say : goal.returns-in-PrintFault-clause-say
+returns-in-PrintFault-clause-say g c = λ _.
+    let p = c.in-PrintFault.ensures.print refl in (
+      rose_from _ _ _ c.in-Ok.ensures.print_faults p.0,
+      elim p.1 [
+        | inl f ↦ inl (f.1, checked_from c.in-Ok.ensures.begun _ f.0 f.1 f.2 f.3, appends_front_from _ _ _ _ c.in-Ok.ensures.printed f.4)
+        | inr s ↦ inr (s.0, s.1, file_of c.in-Ok.ensures.begun _ s.0 s.1 s.2, appends_front_from _ _ _ _ c.in-Ok.ensures.printed s.3)
+      ],
+    )
+
+pub returns-clause-memory : goal.returns-clause-memory
+returns-clause-memory g c = λ _. elim (c.in-Memory.ensures.memory refl) [
+  | inl f ↦ inr (inl (f.1, checked_from c.in-Ok.ensures.begun _ f.0 f.1 f.2 f.3, appends_from _ _ _ _ c.in-Ok.ensures.printed f.4))
+  | inr s ↦ inr (inr (s.0, s.1, file_of c.in-Ok.ensures.begun _ s.0 s.1 s.2, some_from _ _ _ _ c.in-Ok.ensures.printed s.3))
+]

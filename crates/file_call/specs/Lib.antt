@@ -1,0 +1,5 @@
+pub mod Files
+pub mod Statuses
+pub mod Said
+pub mod Repaired
+pub mod Drilled

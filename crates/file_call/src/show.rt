@@ -1,0 +1,135 @@
+//! `show`: what a file holds, chunk by chunk.
+
+ghost use Rattle.std.specs.Prelude.{◌≡◌, ◌≤◌, ◌⊎◌, List, ℕ, IsTrue, IsErrOf, IfOk, [], codes};
+ghost use Rattle.std.specs.Io.KnownBytes.{Appends};
+ghost use Rattle.rec_base.specs.Causes.{Rose};
+ghost use Rattle.rec_base.specs.Contents.{IsOpened};
+ghost use Rattle.rec_base.specs.Known.{AppendsFront};
+ghost use Rattle.rec_base.specs.Moved.{HasFailed};
+ghost use Rattle.rec_base.specs.declared.name.Name.TheVariants.{File};
+ghost use Rattle.file_model.specs.declared.end.FileEnd.{FileEnd};
+ghost use Rattle.file_model.specs.declared.end.FileEnd.TheVariants.{ReadFault, SizeLimit};
+ghost use Rattle.file_model.specs.Reader.{ChunkAt};
+ghost use Rattle.report_model.specs.Shown.{AreFirstLines, show_lines, printed_lines};
+ghost use Rattle.dock_calls.specs.Said.{SaysFault, SaysBehind};
+ghost use Rattle.file_call.specs.Files.{IsFileOf, IsFileFrom, IsOtherFile, IsToldOther};
+ghost use Rattle.file_call.specs.Statuses.{file_status, is_show_status, is_shown, shown_status};
+
+use crate::fault::{OpenFault, ReportFault};
+use crate::open::open_file;
+use dock_calls::say_fault;
+use rec_base::{Dock, Lines, Sink, Source, Word};
+use std::alloc::Global;
+use stream_report::{ShowEnd, show_file};
+
+/// How far a file was shown.
+#[derive(Clone, Copy, Debug, PartialEq, Eq)]
+pub(crate) enum Shown {
+    /// To its end.
+    Whole,
+    /// Up to a torn chunk, with which it ends.
+    Torn,
+    /// Up to a place at which no chunk stands.
+    Bad,
+}
+
+// Says the lines of a file, and answers how far.
+fn show<D: Dock>(alloc: Global, name: &Word, dock: &mut D) -> Result<Shown, ReportFault>
+    ensures shown { IfOk result (λ s. (chunks : List ChunkAt) × (end : FileEnd) × (shown_status s ≡ file_status end)
+        × IsFileOf D.Source.left D.Source.faults D.Source.mark (D.contents dock.old) name.now chunks end
+        × Appends (D.printed dock.old) (D.printed dock.new) (printed_lines (show_lines (chunks, end)))) }
+    ensures read { IsErrOf result ReportFault.Read → (chunks : List ChunkAt)
+        × IsFileOf D.Source.left D.Source.faults D.Source.mark (D.contents dock.old) name.now chunks ReadFault
+        × Appends (D.printed dock.old) (D.printed dock.new) (printed_lines (show_lines (chunks, ReadFault))) }
+    ensures size_limit { IsErrOf result ReportFault.SizeLimit → (chunks : List ChunkAt)
+        × IsFileOf D.Source.left D.Source.faults D.Source.mark (D.contents dock.old) name.now chunks SizeLimit
+        × Appends (D.printed dock.old) (D.printed dock.new) (printed_lines (show_lines (chunks, SizeLimit))) }
+    ensures not_xdf { IsErrOf result ReportFault.NotXdf → IsOtherFile D.Source.left (D.contents dock.old) name.now }
+    ensures open { IsErrOf result ReportFault.Open → Rose (D.open_faults dock.old) (D.open_faults dock.new)
+        ⊎ ((first : D.Source) × (last : D.Source) × IsOpened (D.contents dock.old) (File name.now) 0 (D.Source.left first)
+        × HasFailed D.Source.left D.Source.faults D.Source.mark first last) }
+    ensures say { IsErrOf result ReportFault.Say → Rose (D.print_faults dock.old) (D.print_faults dock.new)
+        × (((lines : List (List ℕ)) × IsFileFrom AreFirstLines D.Source.left (D.contents dock.old) name.now lines
+        × AppendsFront (D.printed dock.old) (D.printed dock.new) (printed_lines lines))
+        ⊎ ((chunks : List ChunkAt) × (end : FileEnd) × IsFileOf D.Source.left D.Source.faults D.Source.mark (D.contents dock.old) name.now chunks end
+        × AppendsFront (D.printed dock.old) (D.printed dock.new) (printed_lines (show_lines (chunks, end))))) }
+    ensures memory { IsErrOf result ReportFault.Memory → (D.printed dock.new ≡ D.printed dock.old)
+        ⊎ ((lines : List (List ℕ)) × IsFileFrom AreFirstLines D.Source.left (D.contents dock.old) name.now lines
+        × Appends (D.printed dock.old) (D.printed dock.new) (printed_lines lines)) }
+    ensures none_said { IsErrOf result ReportFault.NotXdf ⊎ IsErrOf result ReportFault.Open
+        → (D.printed dock.new ≡ D.printed dock.old) × (D.print_faults dock.new ≡ D.print_faults dock.old) }
+    ensures later { D.print_faults dock.old ≤ D.print_faults dock.new }
+    ensures target { D.target dock.new ≡ D.target dock.old }
+    ensures held { D.held dock.new ≡ D.held dock.old }
+    ensures write_faults { D.write_faults dock.new ≡ D.write_faults dock.old }
+{
+    let mut reader = match open_file(alloc, dock, name) {
+        Ok(reader) => reader,
+        Err(OpenFault::NotXdf) => return Err(ReportFault::NotXdf),
+        Err(OpenFault::Open) => return Err(ReportFault::Open),
+        Err(OpenFault::Memory) => return Err(ReportFault::Memory),
+    };
+    match show_file(alloc, &mut reader, dock) {
+        ShowEnd::Clean => Ok(Shown::Whole),
+        ShowEnd::Torn => Ok(Shown::Torn),
+        ShowEnd::Bad => Ok(Shown::Bad),
+        ShowEnd::ReadFault => Err(ReportFault::Read),
+        ShowEnd::SizeLimit => Err(ReportFault::SizeLimit),
+        ShowEnd::PrintFault => Err(ReportFault::Say),
+        ShowEnd::Memory => Err(ReportFault::Memory),
+    }
+}
+
+/// Shows a file, and answers the status.
+pub(crate) fn show_status<D: Dock>(alloc: Global, name: &Word, dock: &mut D) -> u8
+    ensures statuses { IsTrue (is_show_status result) }
+    ensures shown { IsTrue (is_shown result) → (chunks : List ChunkAt) × (end : FileEnd) × (result ≡ file_status end)
+        × IsFileOf D.Source.left D.Source.faults D.Source.mark (D.contents dock.old) name.now chunks end
+        × Appends (D.printed dock.old) (D.printed dock.new) (printed_lines (show_lines (chunks, end))) }
+    ensures not_xdf { result ≡ 3 → IsOtherFile D.Source.left (D.contents dock.old) name.now × IsToldOther (D.contents dock.old) name.now
+        × SaysFault (D.printed dock.old) (D.printed dock.new) (D.print_faults dock.old) (D.print_faults dock.new) (codes "fault 3") }
+    ensures open_fault { result ≡ 4 → ((Rose (D.open_faults dock.old) (D.open_faults dock.new)
+        ⊎ ((first : D.Source) × (last : D.Source) × IsOpened (D.contents dock.old) (File name.now) 0 (D.Source.left first)
+        × HasFailed D.Source.left D.Source.faults D.Source.mark first last))
+        × SaysBehind (D.printed dock.old) (D.printed dock.new) (D.print_faults dock.old) (D.print_faults dock.new) [] (codes "fault 4"))
+        ⊎ ((chunks : List ChunkAt) × IsFileOf D.Source.left D.Source.faults D.Source.mark (D.contents dock.old) name.now chunks ReadFault
+        × SaysBehind (D.printed dock.old) (D.printed dock.new) (D.print_faults dock.old) (D.print_faults dock.new) (show_lines (chunks, ReadFault)) (codes "fault 4")) }
+    ensures size_limit { result ≡ 7 → (chunks : List ChunkAt) × IsFileOf D.Source.left D.Source.faults D.Source.mark (D.contents dock.old) name.now chunks SizeLimit
+        × SaysBehind (D.printed dock.old) (D.printed dock.new) (D.print_faults dock.old) (D.print_faults dock.new) (show_lines (chunks, SizeLimit)) (codes "fault 7") }
+    ensures say_fault { result ≡ 8 → Rose (D.print_faults dock.old) (D.print_faults dock.new)
+        × (((lines : List (List ℕ)) × IsFileFrom AreFirstLines D.Source.left (D.contents dock.old) name.now lines
+        × AppendsFront (D.printed dock.old) (D.printed dock.new) (printed_lines lines))
+        ⊎ ((chunks : List ChunkAt) × (end : FileEnd) × IsFileOf D.Source.left D.Source.faults D.Source.mark (D.contents dock.old) name.now chunks end
+        × AppendsFront (D.printed dock.old) (D.printed dock.new) (printed_lines (show_lines (chunks, end))))) }
+    ensures memory { result ≡ 9 → SaysBehind (D.printed dock.old) (D.printed dock.new) (D.print_faults dock.old) (D.print_faults dock.new) [] (codes "fault 9")
+        ⊎ ((lines : List (List ℕ)) × IsFileFrom AreFirstLines D.Source.left (D.contents dock.old) name.now lines
+        × SaysBehind (D.printed dock.old) (D.printed dock.new) (D.print_faults dock.old) (D.print_faults dock.new) lines (codes "fault 9")) }
+    ensures nothing_written { (D.target dock.new ≡ D.target dock.old) × (D.held dock.new ≡ D.held dock.old) × (D.write_faults dock.new ≡ D.write_faults dock.old) }
+{
+    match show(alloc, name, dock) {
+        Ok(Shown::Whole) => 0,
+        Ok(Shown::Torn) => 1,
+        Ok(Shown::Bad) => 6,
+        Err(ReportFault::NotXdf) => {
+            say_fault(dock, "fault 3");
+            3
+        }
+        Err(ReportFault::Open) => {
+            say_fault(dock, "fault 4");
+            4
+        }
+        Err(ReportFault::Read) => {
+            say_fault(dock, "fault 4");
+            4
+        }
+        Err(ReportFault::SizeLimit) => {
+            say_fault(dock, "fault 7");
+            7
+        }
+        Err(ReportFault::Say) => 8,
+        Err(ReportFault::Memory) => {
+            say_fault(dock, "fault 9");
+            9
+        }
+    }
+}

@@ -1,0 +1,42 @@
+use Rattle.std.proofs.Common.{List, ℕ, [], subst, Option}
+use Rattle.std.proofs.lemmas.Result.{IfOk-weaker}
+use Rattle.rec_base.specs.Known.{Becomes}
+use Rattle.record_call.proofs.Records.{ready_are, ready_short, ready_some, ready_few, ready_feeds, file_written, cut_from}
+use Rattle.record_call.proofs.file.write_file.Goals as goal
+
+pub record_turns-requires-clause-are : goal.record_turns-requires-clause-are
+record_turns-requires-clause-are g c = λ κs within. ready_are _ _ _ _ _ _ _ _ c.in_ok-out.ensures.ready
+
+pub record_turns-requires-clause-some : goal.record_turns-requires-clause-some
+record_turns-requires-clause-some g c = λ κs within. ready_some _ _ _ _ _ _ _ _ c.in_ok-out.ensures.ready
+
+pub record_turns-requires-clause-few : goal.record_turns-requires-clause-few
+record_turns-requires-clause-few g c = λ κs within. ready_few _ _ _ _ _ _ _ _ c.in_ok-out.ensures.ready
+
+pub record_turns-requires-clause-short : goal.record_turns-requires-clause-short
+record_turns-requires-clause-short g c = λ κs within. ready_short _ _ _ _ _ _ _ _ c.in_ok-out.ensures.ready
+
+pub record_turns-requires-clause-feeds : goal.record_turns-requires-clause-feeds
+record_turns-requires-clause-feeds g c = λ κs within. ready_feeds _ _ _ _ _ _ _ _ c.in_ok-out.ensures.ready
+
+pub returns-clause-written : goal.returns-clause-written
+returns-clause-written g c =
+    IfOk-weaker c.record_turns.result _ _ (λ w is.
+    file_written g.D.Source.Source.left g.D.Source.Source.faults g.D.Source.Source.mark (g.D.Dock.contents c.args.dock.now) c.args.words.now _ _ _ _ _ _ _ _ _ _ _ _ _ _ c.in_ok-out.ensures.target c.in_ok-out.ensures.held c.in_ok-out.ensures.ready is) c.record_turns.ensures.written
+
+pub returns-clause-not_written : goal.returns-clause-not_written
+returns-clause-not_written g c = λ e.
+    let w = c.record_turns.ensures.not_written e in
+    let T : Option (List ℕ) → Type 0 = λ o. Becomes o (g.D.Dock.target w.0) c.in_ok-out.field-0.out.now in
+    let H : Option (List ℕ) → Type 0 = λ o. Becomes o (g.D.Sink.held w.0) [] in (
+      record {
+        out = c.in_ok-out.field-0.out.now;
+        plan = c.in_ok-out.ensures.ready.plan;
+        streams = c.in_ok-out.field-0.streams.items;
+        asked = c.in_ok-out.ensures.ready.asked;
+        cut = cut_from _ _ _ _ _ _ _ _ c.in_ok-out.ensures.target c.in_ok-out.ensures.held w.3;
+      },
+      w.0,
+      (subst T c.in_ok-out.ensures.target w.1.0, subst H c.in_ok-out.ensures.held w.1.1),
+      w.2,
+    )

@@ -1,0 +1,62 @@
+use Rattle.std.proofs.Common.{[], inr, refl, sym, subst, ◌∙◌, arith, List, ℕ, Option}
+use Rattle.chunk_grammar.specs.Chunk.{least_file_text}
+use Rattle.rec_base.specs.Known.{Becomes}
+use Rattle.rec_base.proofs.Taken.{Becomes-appends}
+use Rattle.record_call.proofs.Records.{cut_of}
+use Rattle.record_call.proofs.run.record_turns.Goals as goal
+
+pub returns-in-Done-clause-written : goal.returns-in-Done-clause-written
+returns-in-Done-clause-written g c =
+    let done = c.in-Done.ensures.done c.args.sizes.ring c.args.sizes.batch c.args.streams.items c.args.feeds.items c.in_ok-recorder.ensures in
+    let P : Option (List ℕ) → Type 0 = λ t. Becomes (g.D.Dock.target c.args.dock.now) t c.args.out.now in
+    record {
+      fed = done.fed;
+      chunks = done.chunks;
+      run = done.run;
+      created = subst P (sym (g.met.D.Dock.write_keeps_target c.create.new.self c.run_turns.new.sink c.run_turns.ensures.rest)) c.in-Ok.ensures.target;
+      text = Becomes-appends _ _ _ [] (least_file_text done.chunks) c.in-Ok.ensures.held done.written;
+      told = done.told;
+      size = done.size;
+      chunk_count = done.chunk_count;
+    }
+
+pub returns-in-Done-clause-later : goal.returns-in-Done-clause-later
+returns-in-Done-clause-later g c = omega (arith, g.met.D.Dock.write_keeps_open_faults c.create.new.self c.run_turns.new.sink c.run_turns.ensures.rest, c.in-Ok.ensures.no_fault)
+
+pub returns-in-Done-clause-printed : goal.returns-in-Done-clause-printed
+returns-in-Done-clause-printed g c = g.met.D.Dock.write_keeps_printed c.create.new.self c.run_turns.new.sink c.run_turns.ensures.rest ∙ c.in-Ok.ensures.printed
+
+pub returns-in-Done-clause-print_faults : goal.returns-in-Done-clause-print_faults
+returns-in-Done-clause-print_faults g c = g.met.D.Dock.write_keeps_print_faults c.create.new.self c.run_turns.new.sink c.run_turns.ensures.rest ∙ c.in-Ok.ensures.print_faults
+
+pub returns-in-WriteFault-clause-not_written : goal.returns-in-WriteFault-clause-not_written
+returns-in-WriteFault-clause-not_written g c = λ _.
+    let stopped = c.in-WriteFault.ensures.stopped c.args.sizes.ring c.args.sizes.batch c.args.streams.items c.args.feeds.items c.in_ok-recorder.ensures in
+    let P : Option (List ℕ) → Type 0 = λ t. Becomes (g.D.Dock.target c.args.dock.now) t c.args.out.now in
+    let target = subst P (sym (g.met.D.Dock.write_keeps_target c.create.new.self c.run_turns.new.sink c.run_turns.ensures.rest)) c.in-Ok.ensures.target in
+    (c.create.new.self, (c.in-Ok.ensures.target, c.in-Ok.ensures.held), c.in-WriteFault.ensures.cause refl, cut_of c.args.streams.items c.args.out.now _ _ _ _ _ target c.in-Ok.ensures.held stopped)
+
+pub returns-in-WriteFault-clause-later : goal.returns-in-WriteFault-clause-later
+returns-in-WriteFault-clause-later g c = omega (arith, g.met.D.Dock.write_keeps_open_faults c.create.new.self c.run_turns.new.sink c.run_turns.ensures.rest, c.in-Ok.ensures.no_fault)
+
+pub returns-in-WriteFault-clause-printed : goal.returns-in-WriteFault-clause-printed
+returns-in-WriteFault-clause-printed g c = g.met.D.Dock.write_keeps_printed c.create.new.self c.run_turns.new.sink c.run_turns.ensures.rest ∙ c.in-Ok.ensures.printed
+
+pub returns-in-WriteFault-clause-print_faults : goal.returns-in-WriteFault-clause-print_faults
+returns-in-WriteFault-clause-print_faults g c = g.met.D.Dock.write_keeps_print_faults c.create.new.self c.run_turns.new.sink c.run_turns.ensures.rest ∙ c.in-Ok.ensures.print_faults
+
+pub returns-in-Memory-clause-memory : goal.returns-in-Memory-clause-memory
+returns-in-Memory-clause-memory g c = λ _.
+    let stopped = c.in-Memory.ensures.stopped c.args.sizes.ring c.args.sizes.batch c.args.streams.items c.args.feeds.items c.in_ok-recorder.ensures in
+    let P : Option (List ℕ) → Type 0 = λ t. Becomes (g.D.Dock.target c.args.dock.now) t c.args.out.now in
+    let target = subst P (sym (g.met.D.Dock.write_keeps_target c.create.new.self c.run_turns.new.sink c.run_turns.ensures.rest)) c.in-Ok.ensures.target in
+    inr (cut_of c.args.streams.items c.args.out.now _ _ _ _ _ target c.in-Ok.ensures.held stopped)
+
+pub returns-in-Memory-clause-later : goal.returns-in-Memory-clause-later
+returns-in-Memory-clause-later g c = omega (arith, g.met.D.Dock.write_keeps_open_faults c.create.new.self c.run_turns.new.sink c.run_turns.ensures.rest, c.in-Ok.ensures.no_fault)
+
+pub returns-in-Memory-clause-printed : goal.returns-in-Memory-clause-printed
+returns-in-Memory-clause-printed g c = g.met.D.Dock.write_keeps_printed c.create.new.self c.run_turns.new.sink c.run_turns.ensures.rest ∙ c.in-Ok.ensures.printed
+
+pub returns-in-Memory-clause-print_faults : goal.returns-in-Memory-clause-print_faults
+returns-in-Memory-clause-print_faults g c = g.met.D.Dock.write_keeps_print_faults c.create.new.self c.run_turns.new.sink c.run_turns.ensures.rest ∙ c.in-Ok.ensures.print_faults

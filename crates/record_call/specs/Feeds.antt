@@ -1,0 +1,143 @@
+-- The inputs of a recording, each by its place among those of one name. They are opened in this order: the plan, the header documents of the
+-- feeds, and the feeds. This project's own.
+use Rattle.std.specs.Prelude.{◌≡◌, ◌⊎◌, ℕ, ◌<◌, ◌≤◌, ⊤, List, [], ◌∷◌, ◌++◌, length, slice_get, Option, None, Some, Ok, IsErr}
+use Rattle.rec_base.specs.declared.name.Name.{Name}
+use Rattle.rec_base.specs.declared.name.Name.TheVariants as name
+use Rattle.rec_base.specs.Contents.{Contents, Opens}
+use Rattle.rec_base.specs.Moved.{HasFailed}
+use Rattle.dock_calls.specs.Places.{place_of, IsInputAt, IsOpenedAt, IsAfter}
+use Rattle.reading_model.specs.Read.{IsReadingOf}
+use Rattle.xdf_model.specs.Shape.{shape_in}
+use Rattle.inlet_model.specs.Inlet.{feed_kind}
+use Rattle.plan_model.specs.declared.plan.FeedFrom.{FeedFrom}
+use Rattle.plan_model.specs.declared.plan.FeedFrom.TheVariants as from
+use Rattle.plan_model.specs.declared.plan.FeedLine.{FeedLine}
+use Rattle.recording_model.specs.declared.stream.StreamDoc.{StreamDoc}
+use Rattle.record_run.specs.declared.feed.FeedSource.{FeedSource}
+use Rattle.record_run.specs.Run.{Fed, feed_of}
+
+-- the most bytes of a header document
+abbrev pub document_limit : ℕ
+document_limit = 1_048_576
+
+-- the name under which the header document of a feed is opened
+abbrev pub document_name : FeedLine → List Name
+document_name feed = name.File feed.doc ∷ []
+
+-- the name under which a feed from a file is opened; no other feed is opened yet
+abbrev pub file_name : FeedFrom → List Name
+file_name (from.File path) = name.File path ∷ []
+file_name (from.Tcp host port uid) = []
+
+abbrev pub feed_name : FeedLine → List Name
+feed_name feed = file_name feed.from
+
+abbrev pub names_of : (FeedLine → List Name) → List FeedLine → List Name
+names_of opens [] = []
+names_of opens (feed ∷ feeds) = opens feed ++ names_of opens feeds
+
+-- each feed has its item, which is opened once these names and those of the feeds before it were
+abbrev pub AreEach : {T : Type 0} → (FeedLine → List Name) → (List Name → FeedLine → T → Type 0) → List Name → List FeedLine → List T → Type 0
+AreEach opens each names [] [] = ⊤
+AreEach opens each names [] (x ∷ xs) = ⊥
+AreEach opens each names (feed ∷ feeds) [] = ⊥
+AreEach opens each names (feed ∷ feeds) (x ∷ xs) = each names feed x × AreEach opens each (names ++ opens feed) feeds xs
+
+-- ---- header documents
+
+-- the stream of a feed has the feed's id, and the header document at the feed's path, which isn't too long and tells the stream's shape
+pub record IsStreamOf (contents : Option Contents) (names : List Name) (feed : FeedLine) (stream : StreamDoc) : Type 0 where
+  pub id : stream.id ≡ feed.id
+  pub input : IsInputAt contents names (name.File feed.doc) stream.doc
+  pub short : length stream.doc ≤ document_limit
+  pub shape : shape_in stream.doc ≡ Ok stream.shape
+
+pub record AreStreamsOf (contents : Option Contents) (names : List Name) (feeds : List FeedLine) (streams : List StreamDoc) : Type 0 where
+  pub each : AreEach document_name (IsStreamOf contents) names feeds streams
+
+-- a document that tells no shape, or is too long
+abbrev pub IsNoDocument : List ℕ → Type 0
+IsNoDocument text = IsErr (shape_in text) ⊎ (document_limit < length text)
+
+-- a feed of the list, where the feeds before it have streams
+pub record IsNext (contents : Option Contents) (names : List Name) (feeds : List FeedLine) (feed : FeedLine) (opened : List Name) : Type 0 where
+  pub before : List FeedLine
+  pub behind : List FeedLine
+  pub parts : feeds ≡ before ++ feed ∷ behind
+  pub streams : List StreamDoc
+  pub are : AreStreamsOf contents names before streams
+  pub names_opened : opened ≡ names ++ names_of document_name before
+
+-- the feed of this id is the first whose header document tells no shape, or is too long
+pub record HasNoStream (contents : Option Contents) (names : List Name) (feeds : List FeedLine) (id : ℕ) : Type 0 where
+  pub feed : FeedLine
+  pub opened : List Name
+  pub next : IsNext contents names feeds feed opened
+  pub same : id ≡ feed.id
+  pub text : List ℕ
+  pub input : IsInputAt contents opened (name.File feed.doc) text
+  pub none : IsNoDocument text
+
+-- a read of the header document of a feed failed, where the feeds before it have streams
+pub record HasFailedDocument {S M : Type 0} (left_of : S → Option (List ℕ)) (faults_of : S → ℕ) (mark_of : S → M) (contents : Option Contents) (names : List Name) (feeds : List FeedLine) : Type 0 where
+  pub feed : FeedLine
+  pub opened : List Name
+  pub next : IsNext contents names feeds feed opened
+  pub first : S
+  pub last : S
+  pub source : IsOpenedAt contents opened (name.File feed.doc) (left_of first)
+  pub failed : HasFailed left_of faults_of mark_of first last
+
+-- ---- feeds
+
+-- the source of a feed from a file was opened at the feed's path; it has no uid, and the limit of the plan
+pub record IsSourceOf {S : Type 0} (left_of : S → Option (List ℕ)) (contents : Option Contents) (names : List Name) (feed : FeedLine) (source : FeedSource S) : Type 0 where
+  pub path : List ℕ
+  pub from : feed.from ≡ from.File path
+  pub opened : IsOpenedAt contents names (name.File path) (left_of source.source)
+  pub uid : source.uid ≡ None
+  pub limit : source.limit ≡ feed.limit
+
+pub record AreSourcesOf {S : Type 0} (left_of : S → Option (List ℕ)) (contents : Option Contents) (names : List Name) (feeds : List FeedLine) (sources : List (FeedSource S)) : Type 0 where
+  pub each : AreEach feed_name (IsSourceOf left_of contents) names feeds sources
+
+-- where contents are told, the samples and the end are those of the text at the feed's path
+pub record IsToldOf {S : Type 0} (contents : Option Contents) (names : List Name) (feed : FeedLine) (x : Fed S) : Type 0 where
+  pub path : List ℕ
+  pub from : feed.from ≡ from.File path
+  pub told : (texts : Contents) → contents ≡ Some texts → (text : List ℕ) × (slice_get (texts (name.File path)) (place_of names (name.File path)) ≡ Some text)
+      × IsReadingOf feed_kind (feed_of x.stream x.feed) text x.samples x.end
+
+pub record AreToldOf {S : Type 0} (contents : Option Contents) (names : List Name) (feeds : List FeedLine) (fed : List (Fed S)) : Type 0 where
+  pub each : AreEach feed_name (IsToldOf contents) names feeds fed
+
+-- ---- what calls that open some of the inputs do, whatever was opened before them
+
+-- the header document of a feed was opened and read
+pub record IsStreamRead (before now : Option Contents) (feed : FeedLine) (stream : StreamDoc) : Type 0 where
+  pub id : stream.id ≡ feed.id
+  pub opened : Opens before now (name.File feed.doc) (Some stream.doc)
+  pub short : length stream.doc ≤ document_limit
+  pub shape : shape_in stream.doc ≡ Ok stream.shape
+
+pub record AreStreamsRead (before now : Option Contents) (feeds : List FeedLine) (streams : List StreamDoc) : Type 0 where
+  pub are : (contents : Option Contents) (names : List Name) → IsAfter contents before names → AreStreamsOf contents names feeds streams
+  pub left : (contents : Option Contents) (names : List Name) → IsAfter contents before names → IsAfter contents now (names ++ names_of document_name feeds)
+
+pub record HasNoStreamHere (before : Option Contents) (feeds : List FeedLine) (id : ℕ) : Type 0 where
+  pub is : (contents : Option Contents) (names : List Name) → IsAfter contents before names → HasNoStream contents names feeds id
+
+pub record HasFailedHere {S M : Type 0} (left_of : S → Option (List ℕ)) (faults_of : S → ℕ) (mark_of : S → M) (before : Option Contents) (feeds : List FeedLine) : Type 0 where
+  pub is : (contents : Option Contents) (names : List Name) → IsAfter contents before names → HasFailedDocument left_of faults_of mark_of contents names feeds
+
+-- a feed was opened
+pub record IsSourceOpened {S : Type 0} (left_of : S → Option (List ℕ)) (before now : Option Contents) (feed : FeedLine) (source : FeedSource S) : Type 0 where
+  pub path : List ℕ
+  pub from : feed.from ≡ from.File path
+  pub opened : Opens before now (name.File path) (left_of source.source)
+  pub uid : source.uid ≡ None
+  pub limit : source.limit ≡ feed.limit
+
+pub record AreSourcesOpened {S : Type 0} (left_of : S → Option (List ℕ)) (before now : Option Contents) (feeds : List FeedLine) (sources : List (FeedSource S)) : Type 0 where
+  pub are : (contents : Option Contents) (names : List Name) → IsAfter contents before names → AreSourcesOf left_of contents names feeds sources
+  pub left : (contents : Option Contents) (names : List Name) → IsAfter contents before names → IsAfter contents now (names ++ names_of feed_name feeds)

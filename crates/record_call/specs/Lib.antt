@@ -1,0 +1,6 @@
+pub mod Ends
+pub mod Lines
+pub mod Feeds
+pub mod Plans
+pub mod Recorded
+pub mod Statuses

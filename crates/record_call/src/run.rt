@@ -1,0 +1,81 @@
+//! The run of a recording, into an output that is created for it.
+
+ghost use Rattle.std.specs.Prelude.{◌≡◌, ◌≤◌, ◌⊎◌, length, IfOk, IsErr, IsErrOf};
+ghost use Rattle.std.specs.List.{AllByRecursion};
+ghost use Rattle.rec_base.specs.Causes.{Rose};
+ghost use Rattle.recording_model.specs.Recording.{AreStreams};
+ghost use Rattle.record_call.specs.Recorded.{IsWritten, IsCut, IsCreated};
+
+use crate::fault::RecordFault;
+use rec_base::{Dock, Failed, Lines, Sink, Source, Word};
+use record_run::{FeedSource, Outcome, Recorder, ReportList, StreamDoc};
+use std::alloc::Global;
+
+/// The sizes of a plan: the most samples that wait in a ring, and the most that are taken at once.
+#[derive(Clone, Copy, Debug)]
+pub(crate) struct Sizes {
+    pub(crate) ring: u64,
+    pub(crate) batch: u64,
+}
+
+/// A recording whose file is written: what became of its feeds, the file's size, and its number of
+/// chunks.
+#[derive(Debug, Drop)]
+pub(crate) struct Written {
+    pub(crate) reports: ReportList,
+    pub(crate) bytes: u64,
+    pub(crate) chunks: u64,
+}
+
+/// Takes the memory of the run, creates the output, and records the feeds by turns.
+pub(crate) fn record_turns<D: Dock>(
+    alloc: Global,
+    dock: &mut D,
+    out: &Word,
+    sizes: Sizes,
+    streams: Vec<StreamDoc>,
+    feeds: Vec<FeedSource<D::Source>>,
+) -> Result<Written, RecordFault>
+    requires ring_low { 1 ≤ sizes.ring }
+    requires ring_high { sizes.ring ≤ 1_048_576 }
+    requires batch_low { 1 ≤ sizes.batch }
+    requires batch_high { sizes.batch ≤ 65_536 }
+    requires are { AreStreams streams.items }
+    requires some { 1 ≤ length streams.items }
+    requires few { length streams.items ≤ 64 }
+    requires short { AllByRecursion (λ s. length s.doc ≤ 1_048_576) streams.items }
+    requires feeds { length feeds.items ≡ length streams.items }
+    ensures written { IfOk result (λ w. IsWritten D.Source.left D.Source.faults D.Source.mark sizes.ring sizes.batch streams.items feeds.items out.now
+        (D.target dock.old) (D.target dock.new) (D.held dock.old) (D.held dock.new) w.reports w.bytes w.chunks) }
+    ensures not_created { IsErrOf result RecordFault.Open → Rose (D.open_faults dock.old) (D.open_faults dock.new)
+        × (D.target dock.new ≡ D.target dock.old) × (D.held dock.new ≡ D.held dock.old) }
+    ensures not_written { IsErrOf result RecordFault.Write → (created : D)
+        × IsCreated (D.target dock.old) (D.target created) (D.held dock.old) (D.held created) out.now
+        × Rose (D.write_faults created) (D.write_faults dock.new)
+        × IsCut streams.items out.now (D.target dock.old) (D.target dock.new) (D.held dock.old) (D.held dock.new) }
+    ensures memory { IsErrOf result RecordFault.Memory → ((D.target dock.new ≡ D.target dock.old) × (D.held dock.new ≡ D.held dock.old))
+        ⊎ IsCut streams.items out.now (D.target dock.old) (D.target dock.new) (D.held dock.old) (D.held dock.new) }
+    ensures none_else { IsErr result → IsErrOf result RecordFault.Open ⊎ IsErrOf result RecordFault.Write ⊎ IsErrOf result RecordFault.Memory }
+    ensures later { D.open_faults dock.old ≤ D.open_faults dock.new }
+    ensures printed { D.printed dock.new ≡ D.printed dock.old }
+    ensures print_faults { D.print_faults dock.new ≡ D.print_faults dock.old }
+{
+    let recorder = Recorder::open(alloc, sizes.ring, sizes.batch, streams, feeds)?;
+    match dock.create(out) {
+        Ok(()) => {}
+        Err(Failed) => return Err(RecordFault::Open),
+    }
+    match recorder.run_turns(dock) {
+        Outcome::Done {
+            reports,
+            bytes,
+            chunks,
+        } => Ok(Written {
+            reports,
+            bytes,
+            chunks,
+        }),
+        Outcome::WriteFault => Err(RecordFault::Write),
+        Outcome::Memory => Err(RecordFault::Memory),
+    }
+}
