@@ -1,2 +1,3 @@
-pub mod Words
+pub mod Outputs
 pub mod Statuses
+pub mod Words

@@ -1,25 +1,32 @@
 //! The lab recorder: `record PLAN OUT`, and `show`, `check`, `repair` and `drill`.
 #![tactic(auto)]
 
-ghost use Rattle.std.specs.Prelude.{◌≡◌, ◌≢◌, IsTrue, false};
+ghost use Rattle.std.specs.Prelude.{◌≡◌, ◌≢◌, ◌⊎◌};
 ghost use Rattle.std.specs.IoError.{error_kind};
+ghost use Rattle.record_cli.specs.Outputs.{IsForced};
 ghost use Rattle.record_cli.specs.Words.{starts_record};
-ghost use Rattle.record_cli.specs.Statuses.{lost_status};
+ghost use Rattle.record_cli.specs.Statuses.{last_status};
 ghost use Rattle.std.specs.declared.io.ErrorKind.TheVariants.{InvalidData};
 
+mod identity;
+mod output;
 mod real_dock;
 mod real_source;
 #[cfg(test)]
 mod real_tests;
+mod retry;
+mod waiting;
 
 use file_call::file_main;
 use real_dock::RealDock;
-use rec_base::Word;
+use rec_base::{Lines, Word};
 use record_call::record_main;
 use std::alloc::Global;
 use std::env::{self, Env};
+use std::fs::File;
 use std::io;
 use std::process::ExitCode;
+use std::rt::Files;
 
 // The words of the command line, without the program's name.
 fn command_words(rt: &(impl Env + AllocGlobal)) -> io::Result<Vec<Word>> {
@@ -55,29 +62,58 @@ fn is_record(words: &[Word]) -> bool
     }
 }
 
-// The status, once all lines are out: a line of the work that is lost is one that couldn't be said.
-fn told_status(status: u8, told: bool) -> u8
-    ensures told { IsTrue told → result ≡ status }
-    ensures lost { told ≡ false → result ≡ lost_status status }
+// The status, once the output is forced to the disk and all lines are out. A file that may not be on the
+// disk counts as a write that failed, and weighs more than a line that is lost, which counts as one that
+// couldn't be said.
+fn last_status(status: u8, forced: bool, told: bool) -> u8
+    ensures { result ≡ last_status forced told status }
 {
     match status {
+        0 | 1 | 8 if !forced => 5,
         0 | 1 | 6 if !told => 8,
         _ => status,
     }
+}
+
+// Forces the output to the disk, puts out the lines that wait, and answers the status.
+fn settle<R: Files<File = File> + Drop, P: Print + Drop>(
+    status: u8,
+    dock: &mut RealDock<R, P>,
+) -> u8
+    ensures forced { (result ≡ 0) ⊎ (result ≡ 1) → IsForced dock.new.output }
+    ensures written { result ≡ 8 → (status ≡ 6) ⊎ IsForced dock.new.output }
+{
+    let forced = dock.force().is_ok();
+    if last_status(status, forced, true) != status {
+        let _ = dock.say("fault 5");
+    }
+    let told = dock.flush().is_ok();
+    last_status(status, forced, told)
+}
+
+// Does what the words ask for, and answers the status once all is out.
+fn answer<R: Files<File = File> + Drop, P: Print + Drop>(
+    alloc: Global,
+    words: &[Word],
+    dock: &mut RealDock<R, P>,
+) -> u8
+    ensures { (result ≡ 0) ⊎ (result ≡ 1) → IsForced dock.new.output }
+{
+    let status = if is_record(words) {
+        record_main(alloc, words, dock)
+    } else {
+        file_main(alloc, words, dock)
+    };
+    settle(status, dock)
 }
 
 fn main(rt: HostRuntime) -> ExitCode {
     match command_words(&rt) {
         Ok(words) => {
             let alloc: Global = rt.alloc();
-            let mut dock = RealDock::new(alloc, rt);
-            let status = if is_record(&words) {
-                record_main(alloc, &words, &mut dock)
-            } else {
-                file_main(alloc, &words, &mut dock)
-            };
-            let told = dock.flush().is_ok();
-            ExitCode::from(told_status(status, told))
+            let out = rt.stdout();
+            let mut dock = RealDock::new(alloc, rt, out);
+            ExitCode::from(answer(alloc, &words, &mut dock))
         }
         Err(fault) => ExitCode::from(unread_status(&fault)),
     }

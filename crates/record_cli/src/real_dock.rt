@@ -1,46 +1,60 @@
 //! Files and standard output.
 
-ghost use Rattle.std.specs.Prelude.{◌≤◌, ◌<◌, ◌<ℤ◌, pos, length, IfSome};
-ghost use Rattle.std.specs.Fd.{file_raw_fd};
+ghost use Rattle.std.specs.Prelude.{◌≡◌, ◌≤◌, ◌++◌, ◌∷◌, [], OnSome, OnOk};
 ghost use Rattle.rec_base.specs.Causes.{HasCause, Rose};
+ghost use Rattle.record_cli.specs.Outputs.{IsForced};
+ghost use Rattle.record_cli.specs.declared.identity.Identity.{Identity};
 
+use crate::identity::{Identity, identity_of};
+use crate::output::{Output, create_output, force_out, write_some};
 use crate::real_source::RealSource;
+use crate::waiting::{put_out, say_in};
 use rec_base::{Dock, Failed, Lines, Name, Sink, Word};
 use std::alloc::Global;
 use std::fs::{self, File};
-use std::io::Write;
-use std::os::fd::AsRawFd;
 use std::rt::Files;
-
-// The number of standard error.
-const LAST_STREAM: i32 = 2;
-
-// How many bytes of lines may wait before they go out together.
-const MOST_WAITING: usize = 65_536;
 
 /// Files, and standard output for the lines, which go out together, at the latest at `flush`. It tells
 /// none of their bytes, and counts what failed.
 #[derive(Drop)]
-pub(crate) struct RealDock<R: Files<File = File> + Print + Drop> {
-    rt: R,
-    output: Option<File>,
+pub(crate) struct RealDock<R: Files<File = File> + Drop, P: Print + Drop> {
+    files: R,
+    out: P,
+    // the files that were opened to be read
+    inputs: Vec<Identity>,
+    output: Option<Output>,
     // lines that were said and aren't out yet
-    waiting: String,
+    waiting: Vec<u8>,
     open_faults: u64,
     write_faults: u64,
     print_faults: u64,
 }
 
-impl<R: Files<File = File> + Print + Drop> RealDock<R> {
-    /// A dock that has created nothing.
-    pub(crate) fn new(alloc: Global, rt: R) -> RealDock<R> {
+impl<R: Files<File = File> + Drop, P: Print + Drop> RealDock<R, P> {
+    /// A dock that has opened and created nothing.
+    pub(crate) fn new(alloc: Global, files: R, out: P) -> RealDock<R, P> {
         RealDock {
-            rt,
+            files,
+            out,
+            inputs: Vec::new(alloc),
             output: None,
-            waiting: String::new(alloc),
+            waiting: Vec::new(alloc),
             open_faults: 0,
             write_faults: 0,
             print_faults: 0,
+        }
+    }
+
+    /// Forces to the disk what was written, where the output lies on one, and the folder that it was
+    /// made in. `Failed` comes where the system can't.
+    pub(crate) fn force(&mut self) -> Result<(), Failed>
+        ensures forced { OnOk result (IsForced self.new.output) }
+        ensures cause { HasCause self.old.write_faults self.new.write_faults result }
+    {
+        if force_out(&mut self.output) {
+            Ok(())
+        } else {
+            Err(fail(&mut self.write_faults))
         }
     }
 
@@ -48,8 +62,9 @@ impl<R: Files<File = File> + Print + Drop> RealDock<R> {
     /// gone then.
     pub(crate) fn flush(&mut self) -> Result<(), Failed>
         ensures cause { HasCause self.old.print_faults self.new.print_faults result }
+        ensures output { self.new.output ≡ self.old.output }
     {
-        if put_out(&self.rt, &mut self.waiting) {
+        if put_out(&self.out, &mut self.waiting) {
             Ok(())
         } else {
             Err(fail(&mut self.print_faults))
@@ -57,7 +72,7 @@ impl<R: Files<File = File> + Print + Drop> RealDock<R> {
     }
 }
 
-impl<R: Files<File = File> + Print + Drop> Sink for RealDock<R> {
+impl<R: Files<File = File> + Drop, P: Print + Drop> Sink for RealDock<R, P> {
     ghost use Rattle.std.specs.Prelude.{None};
     ghost use Rattle.rec_base.specs.Docked.{BesideSink};
 
@@ -78,7 +93,7 @@ impl<R: Files<File = File> + Print + Drop> Sink for RealDock<R> {
     }
 }
 
-impl<R: Files<File = File> + Print + Drop> Lines for RealDock<R> {
+impl<R: Files<File = File> + Drop, P: Print + Drop> Lines for RealDock<R, P> {
     ghost use Rattle.std.specs.Prelude.{None};
     ghost use Rattle.rec_base.specs.Docked.{BesideLines};
 
@@ -93,7 +108,7 @@ impl<R: Files<File = File> + Print + Drop> Lines for RealDock<R> {
     /// Answers `Failed` where standard output doesn't take the lines that waited before this one, or,
     /// where this one can't wait, not all of it.
     fn say(&mut self, line: &str) -> Result<(), Failed> {
-        if say_in(&self.rt, &mut self.waiting, line) {
+        if say_in(&self.out, &mut self.waiting, line) {
             Ok(())
         } else {
             Err(fail(&mut self.print_faults))
@@ -101,7 +116,7 @@ impl<R: Files<File = File> + Print + Drop> Lines for RealDock<R> {
     }
 }
 
-impl<R: Files<File = File> + Print + Drop> Dock for RealDock<R> {
+impl<R: Files<File = File> + Drop, P: Print + Drop> Dock for RealDock<R, P> {
     ghost use Rattle.std.specs.Prelude.{None, refl};
     ghost use Rattle.std.proofs.Common.{ap};
     ghost use Rattle.rec_base.specs.Docked.{BesideLines, BesideSink};
@@ -114,21 +129,23 @@ impl<R: Files<File = File> + Print + Drop> Dock for RealDock<R> {
 
     ghost open_faults = { λ d. d.open_faults };
 
-    /// Answers `Failed` where there is no such file to read, and for each peer, which this dock
-    /// doesn't know yet.
+    /// Answers `Failed` where there is no such file to read or no memory to remember it by, and for each
+    /// peer, which this dock doesn't know yet.
     fn open(&mut self, name: &Name) -> Result<RealSource, Failed> {
-        match open_file(&self.rt, name) {
+        match open_input(&self.files, name, &mut self.inputs) {
             Some(file) => Ok(RealSource::new(file)),
             None => Err(fail(&mut self.open_faults)),
         }
     }
 
-    /// Empties a file that is there. Answers `Failed` where the system creates none.
+    /// Makes a new file, or takes an empty file, a device or a pipe that is there. Answers `Failed` where
+    /// the system does neither, where the file that is there is one that this dock has opened, and where
+    /// it is a regular file that has bytes; it stays as it is then.
     fn create(&mut self, name: &Word) -> Result<(), Failed> {
-        let Some(file) = create_file(&self.rt, name) else {
+        let Some(output) = create_output(&self.files, name.text(), &self.inputs) else {
             return Err(fail(&mut self.open_faults));
         };
-        self.output = Some(file);
+        self.output = Some(output);
         Ok(())
     }
 
@@ -153,33 +170,6 @@ impl<R: Files<File = File> + Print + Drop> Dock for RealDock<R> {
     ghost say_keeps_write_faults = { λ d e h. ap (λ (r : BesideLines). r.write_faults) h };
 }
 
-// Puts out the lines that wait, and says whether standard output took them.
-fn put_out<R: Print>(rt: &R, waiting: &mut String) -> bool {
-    let out = waiting.is_empty() || rt.print(waiting.as_str()).is_ok();
-    waiting.clear();
-    out
-}
-
-// Lets a line wait, where there is memory for it.
-fn keep_line(waiting: &mut String, line: &str) -> bool {
-    if waiting.reserve(line.len().saturating_add(1)).is_err() {
-        return false;
-    }
-    waiting.push_str(line).is_ok() && waiting.push('\n').is_ok()
-}
-
-// Lets a line wait, or puts it out where it can't, behind those that wait; and says whether none was
-// lost.
-fn say_in<R: Print>(rt: &R, waiting: &mut String, line: &str) -> bool {
-    if line.len() >= MOST_WAITING.saturating_sub(waiting.len()) && !put_out(rt, waiting) {
-        return false;
-    }
-    if line.len() < MOST_WAITING && keep_line(waiting, line) {
-        return true;
-    }
-    put_out(rt, waiting) && rt.println(line).is_ok()
-}
-
 // Counts a failure.
 fn fail(faults: &mut u64) -> Failed
     ensures counted { Rose faults.old faults.new }
@@ -189,50 +179,25 @@ fn fail(faults: &mut u64) -> Failed
     Failed
 }
 
-// Writes some of the bytes. `None` where there is no file, or it takes none of them.
-fn write_some(output: &mut Option<File>, bytes: &[u8]) -> Option<usize>
-    ensures within { IfSome result (λ n. n ≤ length bytes.now) }
-    ensures some { 0 < length bytes.now → IfSome result (λ n. 0 < n) }
+// The file of a name, which is remembered as an input.
+fn open_input<R: Files<File = File>>(
+    files: &R,
+    name: &Name,
+    inputs: &mut Vec<Identity>,
+) -> Option<File>
+    ensures { OnSome result ((input : Identity) × (inputs.new.items ≡ inputs.old.items ++ (input ∷ []))) }
 {
-    let file = match output {
-        Some(file) => file,
-        None => return None,
+    let Name::File(word) = name else {
+        return None;
     };
-    match file.write(bytes) {
-        Ok(0) if !bytes.is_empty() => None,
-        Ok(n) => Some(n),
+    let Ok(file) = fs::open(files, word.text()) else {
+        return None;
+    };
+    let Ok(found) = file.metadata() else {
+        return None;
+    };
+    match inputs.push(identity_of(&found)) {
+        Ok(()) => Some(file),
         Err(_) => None,
-    }
-}
-
-// The file of a name.
-fn open_file<R: Files<File = File>>(rt: &R, name: &Name) -> Option<File> {
-    match name {
-        Name::File(word) => fs::open(rt, word.text()).ok(),
-        Name::Peer { .. } => None,
-    }
-}
-
-// An empty file of this name.
-fn create_file<R: Files<File = File>>(rt: &R, name: &Word) -> Option<File>
-    ensures { IfSome result (λ file. pos 2 <ℤ file_raw_fd file) }
-{
-    match fs::create(rt, name.text()) {
-        Ok(file) => beside_streams(file),
-        Err(_) => None,
-    }
-}
-
-// The same file under a number past those of the standard streams. Where standard output is
-// closed, the system gives its number to the next file, and the lines would go into that file.
-fn beside_streams(file: File) -> Option<File>
-    ensures { IfSome result (λ file. pos 2 <ℤ file_raw_fd file) }
-{
-    if file.as_raw_fd() > LAST_STREAM {
-        return Some(file);
-    }
-    match file.try_clone() {
-        Ok(copy) if copy.as_raw_fd() > LAST_STREAM => Some(copy),
-        _ => None,
     }
 }

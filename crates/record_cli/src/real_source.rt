@@ -1,8 +1,8 @@
 //! A file that is read.
 
+use crate::retry::read_again;
 use rec_base::{Failed, Source};
 use std::fs::File;
-use std::io::Read;
 
 /// An open file. It tells none of its bytes, and counts the reads that failed.
 #[derive(Drop)]
@@ -26,9 +26,9 @@ impl Source for RealSource {
 
     ghost mark = { λ _. tt };
 
-    /// Answers `Failed` where the system refuses the read.
+    /// Answers `Failed` where the system refuses the read. One that a signal interrupts is tried again.
     fn read(&mut self, buf: &mut [u8]) -> Result<usize, Failed> {
-        match self.file.read(buf) {
+        match read_again(&mut self.file, buf) {
             Ok(n) => Ok(n),
             Err(_) => {
                 self.faults = self.faults.saturating_add(1);
