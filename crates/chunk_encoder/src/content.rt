@@ -19,10 +19,9 @@ fn put_samples(shape: &Shape, samples: &SampleList, out: &mut Vec<u8>) -> Result
     ensures ok { OnOk result (out.new.items ≡ out.old.items ++ flat_map (least_sample_text shape.now) samples.now) }
     ensures kept { OnErr result (KeepsFront out.old.items out.new.items) }
 {
-    for i in 0..samples.len() {
-        if let Some(sample) = samples.get(i) {
-            put_view(shape, &sample, out)?;
-        }
+    let mut rest = samples.walk();
+    while let Some(sample) = rest.next() {
+        put_view(shape, &sample, out)?;
     }
     Ok(())
 }

@@ -13,11 +13,10 @@ fn samples_size(shape: &Shape, samples: &SampleList) -> u64
     requires room { length (flat_map (least_sample_text shape.now) samples.now) < 2 ^ 64 }
     ensures { result ≡ length (flat_map (least_sample_text shape.now) samples.now) }
 {
+    let mut rest = samples.walk();
     let mut size = 0u64;
-    for i in 0..samples.len() {
-        if let Some(sample) = samples.get(i) {
-            size += view_size(shape, &sample);
-        }
+    while let Some(sample) = rest.next() {
+        size += view_size(shape, &sample);
     }
     size
 }

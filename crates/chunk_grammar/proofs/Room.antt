@@ -1,15 +1,14 @@
 -- How much room texts leave.
-use Rattle.std.proofs.Common.{◌≡◌, ℕ, zero, suc, ◌+◌, ◌-◌, ◌^◌, ◌<◌, ◌≤◌, ◌↔◌, true, leb, IsTrue, SomeIff, is_some, List, [], ◌∷◌, ◌++◌, length, get_or, take, Option, Some, None, Ok, refl, ap, sym, subst, arith, lit≤}
+use Rattle.std.proofs.Common.{◌≡◌, ℕ, ◌+◌, ◌-◌, ◌^◌, ◌<◌, ◌≤◌, ◌↔◌, true, leb, IsTrue, SomeIff, is_some, List, ◌++◌, length, Option, Some, None, Ok, refl, ap, subst, arith, lit≤}
 use Rattle.std.proofs.lemmas.Bool.Decides.{nat_tests}
-use Rattle.std.specs.List.{slice_get, flat_map, AllByRecursion}
-use Rattle.std.proofs.lemmas.List.{take_more, flat_map_more, length-append}
-use Rattle.std.proofs.lemmas.List.Folds.{length-flat_map-take}
+use Rattle.std.specs.List.{flat_map, AllByRecursion}
+use Rattle.std.proofs.lemmas.List.{length-append}
 use Rattle.byteorder.specs.Numbers.{length-bytes_low_first}
 use Rattle.byteorder.specs.Endian.{little_bytes}
 use Rattle.xdf_model.specs.declared.types.Shape.{Shape}
 use Rattle.xdf_model.specs.Shape.{shape_in}
 use Rattle.xdf_model.specs.Varlen.{least_width, least_varlen}
-use Rattle.xdf_model.specs.Sample.{Value, number, text, Sample, FitsValue, FitsShape, least_value_text, least_sample_text}
+use Rattle.xdf_model.specs.Sample.{Sample, FitsShape, least_sample_text}
 use Rattle.xdf_model_laws.proofs.LeastTexts.{samples_fit}
 use Rattle.chunk_grammar.specs.declared.chunk.Chunk.{Chunk}
 use Rattle.chunk_grammar.specs.declared.chunk.Chunk.TheVariants.{FileHeader, StreamHeader, Samples, ClockOffset, Boundary, StreamFooter, Other}
@@ -17,49 +16,6 @@ use Rattle.chunk_grammar.specs.Chunk.{Context, shape_of, length_limit, is_other,
 use Rattle.chunk_grammar.proofs.LeastChunks.{content_least, content_limit}
 use Rattle.chunk_grammar.proofs.Spelled.{chunk_spelled, samples_content}
 use Rattle.xdf_lengths.proofs.Lengths.{length-least_varlen}
-use Rattle.sample_values.specs.View.{text_in}
-
--- a text of a list
-pub text_size : (size : ℕ) (vs : List Value) (i : ℕ) (t : List ℕ) → i < length vs → Some t ≡ text_in (slice_get vs i)
-    → 1 + least_width (length t) + length t ≡ length (least_value_text size (get_or vs i (number 0)))
-text_size size [] i t lt e = absurd (omega arith)
-text_size size (number n ∷ vs) zero t lt e = absurd cc
-text_size size (text u ∷ vs) zero t lt e =
-    let same : t ≡ u = cc in
-    omega (arith, ap length same, ap (λ (x : List ℕ). least_width (length x)) same, length-append (least_varlen (length u)) u, length-least_varlen (length u))
-text_size size (v ∷ vs) (suc i) t lt e = text_size size vs i t (omega arith) e
-
--- a number of a list
-pub number_size : (size : ℕ) (vs : List Value) (i : ℕ) → i < length vs → AllByRecursion (FitsValue size) vs → None ≡ text_in (slice_get vs i)
-    → size ≡ length (least_value_text size (get_or vs i (number 0)))
-number_size size [] i lt fits e = absurd (omega arith)
-number_size size (number n ∷ vs) zero lt fits e = omega (arith, length-bytes_low_first 0 size n)
-number_size size (text u ∷ vs) zero lt fits e = absurd cc
-number_size size (v ∷ vs) (suc i) lt fits e = number_size size vs i (omega arith) fits.1 e
-
--- the texts up to an item leave some room, which doesn't hold the item's
-pub no_room : {X : Type 0} (f : X → List ℕ) (xs : List X) (i : ℕ) (d : X) (left room : ℕ) → i < length xs → left + length (flat_map f (take i xs)) ≡ room
-    → (length (f (get_or xs i d)) ≤ left → ⊥) → length (flat_map f xs) ≤ room → ⊥
-no_room f xs i d left room lt so_far much all = much (omega (arith, so_far, all, length-flat_map-take f xs i d lt))
-
--- or holds it
-pub more_room : {X : Type 0} (f : X → List ℕ) (xs : List X) (i : ℕ) (d : X) (left room : ℕ) → i < length xs → left + length (flat_map f (take i xs)) ≡ room
-    → length (f (get_or xs i d)) ≤ left → left - length (f (get_or xs i d)) + length (flat_map f (take (i + 1) xs)) ≡ room
-more_room {X} f xs i d left room lt so_far few =
-    let item = get_or xs i d in
-    omega (arith, so_far, few, ap (λ (t : List X). length (flat_map f t)) (take_more xs i d lt), ap length (flat_map_more f [] (take i xs) item), length-append (flat_map f (take i xs)) (f item))
-
-pub all_at : {X : Type 0} (P : X → Type 0) (xs : List X) (i : ℕ) (d : X) → AllByRecursion P xs → i < length xs → P (get_or xs i d)
-all_at P [] i d all lt = absurd (omega arith)
-all_at P (x ∷ xs) zero d all lt = all.0
-all_at P (x ∷ xs) (suc i) d all lt = all_at P xs i d all.1 (omega arith)
-
-all_push : {X : Type 0} (P : X → Type 0) (xs : List X) (x : X) → AllByRecursion P xs → P x → AllByRecursion P (xs ++ x ∷ [])
-all_push P [] x all one = (one, tt)
-all_push P (y ∷ xs) x all one = (all.0, all_push P xs x all.1 one)
-
-pub all_more : {X : Type 0} (P : X → Type 0) (xs : List X) (i : ℕ) (d : X) → i < length xs → AllByRecursion P (take i xs) → P (get_or xs i d) → AllByRecursion P (take (i + 1) xs)
-all_more {X} P xs i d lt all one = subst (λ (t : List X). AllByRecursion P t) (sym (take_more xs i d lt)) (all_push P (take i xs) (get_or xs i d) all one)
 
 -- the least content is one, and its length is within the limit
 abbrev HasLeast : Context → Chunk → Type 0

@@ -1,12 +1,13 @@
-ghost use Rattle.std.specs.Prelude.{◌≡◌, ◌+◌, ◌-◌, ◌<◌, ◌≤◌, ◌↔◌, List, ℕ, SomeIff, IsTrue, length, get_or};
+ghost use Rattle.std.specs.Prelude.{◌≡◌, ◌+◌, ◌-◌, ◌<◌, ◌≤◌, ◌↔◌, List, ℕ, SomeIff, IsTrue, length};
 ghost use Rattle.std.specs.List.{flat_map, AllByRecursion};
-ghost use Rattle.xdf_model.specs.Sample.{FitsValue, FitsShape, number, least_value_text, stamp_text, least_sample_text, size_of};
+ghost use Rattle.xdf_model.specs.Sample.{FitsValue, FitsShape, least_value_text, stamp_text, least_sample_text, size_of};
+ghost use Rattle.sample_values.specs.View.{seen_value};
 ghost use Rattle.chunk_grammar.specs.declared.chunk.Chunk.TheVariants.{FileHeader, StreamHeader, Samples, ClockOffset, StreamFooter, Other};
 ghost use Rattle.chunk_grammar.specs.Chunk.{IsChunkText};
 
 use crate::{Chunk, Context, SampleList};
 use rec_base::Blob;
-use sample_values::{Sample, Shape, Stamp, sample_fits, size_of_format};
+use sample_values::{SampleView, Shape, Stamp, ValueView, ValueWalk, size_of_format, view_fits};
 use shape_pattern::find_shape;
 use xdf_lengths::num_size;
 
@@ -22,53 +23,54 @@ fn stamp_size(stamp: Stamp) -> u64
     }
 }
 
-fn value_size(size: u8, sample: &Sample, i: usize) -> u64
-    requires within { i < length sample.now.values }
-    requires fits { AllByRecursion (FitsValue size) sample.now.values }
-    ensures { result ≡ length (least_value_text size (get_or sample.now.values i (number 0))) }
+fn value_size(size: u8, value: ValueView<'_>) -> u64
+    requires { FitsValue size (seen_value value) }
+    ensures { result ≡ length (least_value_text size (seen_value value.entry)) }
 {
-    match sample.text_at(i) {
-        Some(text) => {
+    match value {
+        ValueView::Number(_) => size as u64,
+        ValueView::Text(text) => {
             let len = text.len() as u64;
             1 + num_size(len) as u64 + len
         }
-        None => size as u64,
     }
 }
 
 // What values of a size leave of some room, where they find it.
-fn behind_values(size: u8, sample: &Sample, room: u64) -> Option<u64>
-    requires fits { AllByRecursion (FitsValue size) sample.now.values }
-    ensures { let texts = length (flat_map (least_value_text size) sample.now.values) in
+fn behind_values(size: u8, values: ValueWalk<'_>, room: u64) -> Option<u64>
+    requires fits { AllByRecursion (FitsValue size) values }
+    ensures { let texts = length (flat_map (least_value_text size) values.entry) in
         SomeIff result (texts ≤ room) (room - texts) }
 {
+    let mut rest = values;
     let mut left = room;
-    for i in 0..sample.len() {
-        left = left.checked_sub(value_size(size, sample, i))?;
+    while let Some(value) = rest.next() {
+        left = left.checked_sub(value_size(size, value))?;
     }
     Some(left)
 }
 
 // What a sample leaves of some room, where it has the shape and finds the room.
-fn behind_sample(shape: &Shape, sample: &Sample, room: u64) -> Option<u64>
+fn behind_sample(shape: &Shape, sample: &SampleView<'_>, room: u64) -> Option<u64>
     ensures { let text = length (least_sample_text shape.now sample.now) in
         SomeIff result (FitsShape shape.now sample.now × (text ≤ room)) (room - text) }
 {
-    if !sample_fits(shape, sample) {
+    if !view_fits(shape, sample) {
         return None;
     }
     let left = room.checked_sub(stamp_size(sample.stamp()))?;
-    behind_values(size_of_format(shape.format), sample, left)
+    behind_values(size_of_format(shape.format), sample.values(), left)
 }
 
 // What samples leave of some room, where all have the shape and find the room.
-fn behind_samples(shape: &Shape, samples: &[Sample], room: u64) -> Option<u64>
+fn behind_samples(shape: &Shape, samples: &SampleList, room: u64) -> Option<u64>
     ensures { let texts = length (flat_map (least_sample_text shape.now) samples.now) in
         SomeIff result (AllByRecursion (FitsShape shape.now) samples.now × (texts ≤ room)) (room - texts) }
 {
+    let mut rest = samples.walk();
     let mut left = room;
-    for sample in samples {
-        left = behind_sample(shape, sample, left)?;
+    while let Some(sample) = rest.next() {
+        left = behind_sample(shape, &sample, left)?;
     }
     Some(left)
 }
@@ -95,7 +97,7 @@ fn samples_fit(ctx: &Context, id: u32, samples: &SampleList) -> bool
         return false;
     };
     let count = 1 + num_size(samples.len() as u64) as u64;
-    behind_samples(&shape, samples.items(), MOST - 4 - count).is_some()
+    behind_samples(&shape, samples, MOST - 4 - count).is_some()
 }
 
 // All of them have a text: its size is the same for all, and its stream need not be known.

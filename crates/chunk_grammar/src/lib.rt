@@ -9,7 +9,8 @@
 //! only where its header may stand there, that else the answer is the first reason why not, and that
 //! want of memory leaves a context or a list as it was. It tells whether a chunk has a text behind the
 //! streams of a context, exactly and without memory. A sample is moved into a list and lent out of it,
-//! and none of its bytes is copied.
+//! and none of its bytes is copied. Samples that were read stand in a list as their bytes in a file:
+//! these are moved too, and a walk lends each sample where it lies.
 #![tactic(auto)]
 
 mod chunk;
@@ -20,7 +21,7 @@ mod list;
 pub use chunk::{Chunk, tag_of_chunk};
 pub use context::{Context, CtxFault};
 pub use fits::chunk_fits;
-pub use list::SampleList;
+pub use list::{SampleList, SampleWalk};
 
 #[cfg(test)]
 mod tests;

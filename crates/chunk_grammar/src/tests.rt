@@ -1,6 +1,6 @@
 use super::*;
 use rec_base::{Blob, Memory};
-use sample_values::{Format, Sample, Shape, Stamp};
+use sample_values::{Format, RawSamples, Sample, Shape, Stamp, walk_samples};
 use std::test::Fail;
 
 #[test]
@@ -47,6 +47,32 @@ fn samples_stand_in_their_order(rt: HostRuntime) -> Result<(), Fail> {
     }
     let tag = tag_of_chunk(&Chunk::Samples { id: 7, samples });
     assert_eq!(rt; tag, 3);
+    Ok(())
+}
+
+#[test]
+fn pushed_samples_stand_behind_those_that_were_read(rt: HostRuntime) -> Result<(), Fail> {
+    let shape = Shape {
+        count: 1,
+        format: Format::Int8,
+    };
+    let bytes = [0, 7, 0, 9].as_slice();
+    let Ok([]) = walk_samples(&shape, 2, bytes) else {
+        return Err("other samples".into());
+    };
+    let raw = RawSamples::from_bytes(rt.alloc(), shape, 2, bytes)?;
+    let mut samples = SampleList::from_raw(rt.alloc(), raw);
+    assert_eq!(rt; (samples.len(), samples.has_texts()), (2, false));
+    let mut pushed = Sample::new(rt.alloc(), Stamp::Bits(5));
+    pushed.push_bits(11)?;
+    samples.push(pushed)?;
+    assert_eq!(rt; samples.len(), 3);
+    let mut walk = samples.walk();
+    for (place, want) in [(0, Some(7)), (1, Some(9)), (2, Some(11)), (3, None)] {
+        let walked = walk.next().and_then(|view| view.bits_at(0));
+        let found = samples.get(place).and_then(|view| view.bits_at(0));
+        assert_eq!(rt; (walked, found), (want, want), "at {place}");
+    }
     Ok(())
 }
 

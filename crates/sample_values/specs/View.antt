@@ -1,9 +1,11 @@
 -- What a sample's fields mean.
-use Rattle.std.specs.Prelude.{◌≡◌, ℕ, List, Option, Some, None, map, length, take}
+use Rattle.std.specs.Prelude.{◌≡◌, ℕ, Bool, true, false, List, Option, Some, None, map, length, take}
 use Rattle.xdf_model.specs.Sample.{Value, number, text, Sample}
 use Rattle.sample_values.specs.declared.sample.Held.{Held}
 use Rattle.sample_values.specs.declared.sample.Held.TheVariants.{Number, Text}
 use Rattle.sample_values.specs.declared.sample.Sample.TheInside.{Inside}
+use Rattle.sample_values.specs.declared.value.ValueView.{ValueView}
+use Rattle.sample_values.specs.declared.value.ValueView.TheVariants as view
 
 abbrev pub value_of : Held → Value
 value_of (Number n) = number n
@@ -11,6 +13,15 @@ value_of (Text t) = text t.items
 
 abbrev pub view_of : Inside → Sample
 view_of s = record { stamp = s.stamp; values = map value_of s.values.items }
+
+-- a value that is seen where it stands
+abbrev pub seen_value : ValueView → Value
+seen_value (view.Number n) = number n
+seen_value (view.Text t) = text t.now
+
+abbrev pub is_text : Value → Bool
+is_text (number n) = false
+is_text (text t) = true
 
 -- new begins with old
 abbrev pub KeepsFront : List ℕ → List ℕ → Type 0

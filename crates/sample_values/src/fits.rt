@@ -1,10 +1,12 @@
-ghost use Rattle.std.specs.Prelude.{◌≡◌, ◌+◌, ◌^◌, ◌↔◌, IsTrue, map};
+ghost use Rattle.std.specs.Prelude.{◌≡◌, ◌+◌, ◌^◌, ◌↔◌, IsTrue};
 ghost use Rattle.std.specs.List.{AllByRecursion};
 ghost use Rattle.xdf_model.specs.Sample.{FitsValue, FitsShape, FitsStamp, size_of};
-ghost use Rattle.sample_values.specs.View.{value_of};
+ghost use Rattle.sample_values.specs.View.{seen_value};
 
-use crate::sample::{Held, Sample};
+use crate::sample::Sample;
 use crate::size::size_of_format;
+use crate::value::{ValueView, ValueWalk};
+use crate::view::SampleView;
 use xdf_model::{Format, Shape, Stamp};
 
 fn largest_of_format(format: Format) -> u64
@@ -19,21 +21,22 @@ fn largest_of_format(format: Format) -> u64
     }
 }
 
-fn value_fits(size: u8, largest: u64, value: &Held) -> bool
+fn value_fits(size: u8, largest: u64, value: ValueView<'_>) -> bool
     requires { largest + 1 ≡ 256 ^ size }
-    ensures { IsTrue result ↔ FitsValue size (value_of value.now) }
+    ensures { IsTrue result ↔ FitsValue size (seen_value value.entry) }
 {
     match value {
-        Held::Number(bits) => size > 0 && *bits <= largest,
-        Held::Text(_) => size == 0,
+        ValueView::Number(bits) => size > 0 && bits <= largest,
+        ValueView::Text(_) => size == 0,
     }
 }
 
-fn values_fit(size: u8, largest: u64, values: &[Held]) -> bool
+fn values_fit(size: u8, largest: u64, values: ValueWalk<'_>) -> bool
     requires { largest + 1 ≡ 256 ^ size }
-    ensures { IsTrue result ↔ AllByRecursion (FitsValue size) (map value_of values.now) }
+    ensures { IsTrue result ↔ AllByRecursion (FitsValue size) values.entry }
 {
-    for value in values {
+    let mut rest = values;
+    while let Some(value) = rest.next() {
         if !value_fits(size, largest, value) {
             return false;
         }
@@ -57,11 +60,26 @@ fn stamp_fits(stamp: Stamp) -> bool
 pub fn sample_fits(shape: &Shape, sample: &Sample) -> bool
     ensures { IsTrue result ↔ FitsShape shape.now sample.now }
 {
-    stamp_fits(sample.stamp)
-        && sample.values.len() == shape.count as usize
+    view_fits(shape, &sample.view())
+}
+
+// Each value is looked at.
+fn each_fits(shape: &Shape, view: &SampleView<'_>) -> bool
+    ensures { IsTrue result ↔ FitsShape shape.now view.now }
+{
+    stamp_fits(view.stamp())
+        && view.len() == shape.count as usize
         && values_fit(
             size_of_format(shape.format),
             largest_of_format(shape.format),
-            &sample.values,
+            view.values(),
         )
+}
+
+/// Whether a borrowed sample is one of this shape, as [`sample_fits`] tells. Of one that stands as
+/// bytes of this very shape no value is looked at.
+pub fn view_fits(shape: &Shape, view: &SampleView<'_>) -> bool
+    ensures { IsTrue result ↔ FitsShape shape.now view.now }
+{
+    view.has_shape(shape) || each_fits(shape, view)
 }

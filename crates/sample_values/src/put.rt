@@ -1,10 +1,11 @@
-ghost use Rattle.std.specs.Prelude.{◌≡◌, ◌≤◌, ◌++◌, OnOk, OnErr, map};
+ghost use Rattle.std.specs.Prelude.{◌≡◌, ◌≤◌, ◌++◌, OnOk, OnErr};
 ghost use Rattle.std.specs.List.{flat_map, AllByRecursion};
 ghost use Rattle.xdf_model.specs.Sample.{FitsValue, FitsShape, size_of, stamp_text, least_value_text, least_sample_text};
-ghost use Rattle.sample_values.specs.View.{value_of, KeepsFront};
+ghost use Rattle.sample_values.specs.View.{seen_value, KeepsFront};
 
-use crate::sample::{Held, Sample};
+use crate::sample::Sample;
 use crate::size::size_of_format;
+use crate::value::{ValueView, ValueWalk};
 use crate::view::SampleView;
 use byteorder::{ByteOrder, LittleEndian};
 use rec_base::Memory;
@@ -27,15 +28,15 @@ fn put_stamp(stamp: Stamp, out: &mut Vec<u8>) -> Result<(), AllocError>
     Ok(())
 }
 
-fn put_value(size: u8, value: &Held, out: &mut Vec<u8>) -> Result<(), AllocError>
+fn put_value(size: u8, value: ValueView<'_>, out: &mut Vec<u8>) -> Result<(), AllocError>
     requires size { size ≤ 8 }
-    requires fits { FitsValue size (value_of value.now) }
-    ensures ok { OnOk result (out.new.items ≡ out.old.items ++ least_value_text size (value_of value.now)) }
+    requires fits { FitsValue size (seen_value value) }
+    ensures ok { OnOk result (out.new.items ≡ out.old.items ++ least_value_text size (seen_value value.entry)) }
     ensures kept { OnErr result (KeepsFront out.old.items out.new.items) }
 {
     match value {
-        Held::Number(n) => put_fixed(size, *n, out)?,
-        Held::Text(t) => {
+        ValueView::Number(n) => put_fixed(size, n, out)?,
+        ValueView::Text(t) => {
             put_num(t.len() as u64, out)?;
             out.extend_from_slice(t)?;
         }
@@ -43,31 +44,41 @@ fn put_value(size: u8, value: &Held, out: &mut Vec<u8>) -> Result<(), AllocError
     Ok(())
 }
 
-fn put_values(size: u8, values: &[Held], out: &mut Vec<u8>) -> Result<(), AllocError>
+fn put_values(size: u8, values: ValueWalk<'_>, out: &mut Vec<u8>) -> Result<(), AllocError>
     requires size { size ≤ 8 }
-    requires fits { AllByRecursion (FitsValue size) (map value_of values.now) }
-    ensures ok { OnOk result (out.new.items ≡ out.old.items ++ flat_map (least_value_text size) (map value_of values.now)) }
+    requires fits { AllByRecursion (FitsValue size) values }
+    ensures ok { OnOk result (out.new.items ≡ out.old.items ++ flat_map (least_value_text size) values.entry) }
     ensures kept { OnErr result (KeepsFront out.old.items out.new.items) }
 {
-    for value in values {
+    let mut rest = values;
+    while let Some(value) = rest.next() {
         put_value(size, value, out)?;
     }
     Ok(())
 }
 
-fn put_parts(
-    shape: &Shape,
-    stamp: Stamp,
-    values: &[Held],
-    out: &mut Vec<u8>,
-) -> Result<(), AllocError>
-    requires fits { AllByRecursion (FitsValue (size_of shape.now.format)) (map value_of values.now) }
-    ensures ok { OnOk result (out.new.items ≡ out.old.items
-        ++ (stamp_text stamp ++ flat_map (least_value_text (size_of shape.now.format)) (map value_of values.now))) }
+fn put_each(shape: &Shape, view: &SampleView<'_>, out: &mut Vec<u8>) -> Result<(), AllocError>
+    requires { FitsShape shape.now view.now }
+    ensures ok { OnOk result (out.new.items ≡ out.old.items ++ least_sample_text shape.now view.now) }
     ensures kept { OnErr result (KeepsFront out.old.items out.new.items) }
 {
-    put_stamp(stamp, out)?;
-    put_values(size_of_format(shape.format), values, out)
+    put_stamp(view.stamp(), out)?;
+    put_values(size_of_format(shape.format), view.values(), out)
+}
+
+// The same, where a sample of numbers that stands as bytes of this very shape is copied as it lies.
+fn put_parts(shape: &Shape, view: &SampleView<'_>, out: &mut Vec<u8>) -> Result<(), AllocError>
+    requires { FitsShape shape.now view.now }
+    ensures ok { OnOk result (out.new.items ≡ out.old.items ++ least_sample_text shape.now view.now) }
+    ensures kept { OnErr result (KeepsFront out.old.items out.new.items) }
+{
+    match view.least_bytes(shape) {
+        Some(bytes) => {
+            out.extend_from_slice(bytes)?;
+            Ok(())
+        }
+        None => put_each(shape, view, out),
+    }
 }
 
 /// Appends the bytes of a sample to `out`: the byte 0, or the byte 8 and the stamp in 8 bytes; then
@@ -81,13 +92,7 @@ pub fn put_sample(shape: &Shape, sample: &Sample, out: &mut Vec<u8>) -> Result<(
     ensures ok { OnOk result (out.new.items ≡ out.old.items ++ least_sample_text shape.now sample.now) }
     ensures memory { OnErr result (out.new.items ≡ out.old.items) }
 {
-    let start = out.len();
-    let put = put_parts(shape, sample.stamp, &sample.values, out);
-    if put.is_err() {
-        out.truncate(start);
-        return Err(Memory);
-    }
-    Ok(())
+    put_view(shape, &sample.view(), out)
 }
 
 /// Appends the bytes of a borrowed sample to `out`, as [`put_sample`] does.
@@ -96,5 +101,11 @@ pub fn put_view(shape: &Shape, view: &SampleView<'_>, out: &mut Vec<u8>) -> Resu
     ensures ok { OnOk result (out.new.items ≡ out.old.items ++ least_sample_text shape.now view.now) }
     ensures memory { OnErr result (out.new.items ≡ out.old.items) }
 {
-    put_sample(shape, view.sample(), out)
+    let start = out.len();
+    let put = put_parts(shape, view, out);
+    if put.is_err() {
+        out.truncate(start);
+        return Err(Memory);
+    }
+    Ok(())
 }

@@ -3,6 +3,7 @@ ghost use Rattle.std.specs.Option.{option_copied};
 ghost use Rattle.xdf_model.specs.Sample.{number, text};
 ghost use Rattle.sample_values.specs.View.{bits_in, text_in};
 
+use crate::value::ValueWalk;
 use crate::view::SampleView;
 use rec_base::Memory;
 use std::alloc::Global;
@@ -107,6 +108,12 @@ impl Sample {
     pub fn view(&self) -> SampleView<'_>
         ensures { result ≡ self.now }
     {
-        SampleView::of(self)
+        SampleView::kept(self)
+    }
+
+    pub(crate) fn values(&self) -> ValueWalk<'_>
+        ensures { result ≡ self.now.values }
+    {
+        ValueWalk::kept(&self.values)
     }
 }

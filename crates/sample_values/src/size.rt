@@ -1,9 +1,10 @@
-ghost use Rattle.std.specs.Prelude.{◌≡◌, ◌<◌, ◌^◌, length, map};
+ghost use Rattle.std.specs.Prelude.{◌≡◌, ◌<◌, ◌^◌, length};
 ghost use Rattle.std.specs.List.{flat_map, AllByRecursion};
 ghost use Rattle.xdf_model.specs.Sample.{FitsValue, FitsShape, size_of, stamp_text, least_value_text, least_sample_text};
-ghost use Rattle.sample_values.specs.View.{value_of};
+ghost use Rattle.sample_values.specs.View.{seen_value};
 
-use crate::sample::{Held, Sample};
+use crate::sample::Sample;
+use crate::value::{ValueView, ValueWalk};
 use crate::view::SampleView;
 use xdf_lengths::num_size;
 use xdf_model::{Format, Shape, Stamp};
@@ -33,41 +34,42 @@ fn stamp_size(stamp: Stamp) -> u64
     }
 }
 
-fn text_size(value: &Held) -> u64
-    requires fits { FitsValue 0 (value_of value.now) }
-    requires room { length (least_value_text 0 (value_of value.now)) < 2 ^ 64 }
-    ensures { result ≡ length (least_value_text 0 (value_of value.now)) }
+fn text_size(value: ValueView<'_>) -> u64
+    requires fits { FitsValue 0 (seen_value value) }
+    requires room { length (least_value_text 0 (seen_value value)) < 2 ^ 64 }
+    ensures { result ≡ length (least_value_text 0 (seen_value value.entry)) }
 {
     match value {
-        Held::Number(_) => 0,
-        Held::Text(text) => {
+        ValueView::Number(_) => 0,
+        ValueView::Text(text) => {
             let len = text.len() as u64;
             1 + num_size(len) as u64 + len
         }
     }
 }
 
-fn texts_size(values: &[Held]) -> u64
-    requires fits { AllByRecursion (FitsValue 0) (map value_of values.now) }
-    requires room { length (flat_map (least_value_text 0) (map value_of values.now)) < 2 ^ 64 }
-    ensures { result ≡ length (flat_map (least_value_text 0) (map value_of values.now)) }
+fn texts_size(values: ValueWalk<'_>) -> u64
+    requires fits { AllByRecursion (FitsValue 0) values }
+    requires room { length (flat_map (least_value_text 0) values) < 2 ^ 64 }
+    ensures { result ≡ length (flat_map (least_value_text 0) values.entry) }
 {
+    let mut rest = values;
     let mut size = 0u64;
-    for value in values {
+    while let Some(value) = rest.next() {
         size += text_size(value);
     }
     size
 }
 
-fn values_size(size: u8, values: &[Held]) -> u64
-    requires fits { AllByRecursion (FitsValue size) (map value_of values.now) }
-    requires room { length (flat_map (least_value_text size) (map value_of values.now)) < 2 ^ 64 }
-    ensures { result ≡ length (flat_map (least_value_text size) (map value_of values.now)) }
+fn values_size(size: u8, view: &SampleView<'_>) -> u64
+    requires fits { AllByRecursion (FitsValue size) view.now.values }
+    requires room { length (flat_map (least_value_text size) view.now.values) < 2 ^ 64 }
+    ensures { result ≡ length (flat_map (least_value_text size) view.now.values) }
 {
     if size == 0 {
-        texts_size(values)
+        texts_size(view.values())
     } else {
-        values.len() as u64 * size as u64
+        view.len() as u64 * size as u64
     }
 }
 
@@ -77,7 +79,7 @@ pub fn sample_size(shape: &Shape, sample: &Sample) -> u64
     requires room { length (least_sample_text shape.now sample.now) < 2 ^ 64 }
     ensures { result ≡ length (least_sample_text shape.now sample.now) }
 {
-    stamp_size(sample.stamp) + values_size(size_of_format(shape.format), &sample.values)
+    view_size(shape, &sample.view())
 }
 
 /// How many bytes [`put_view`](crate::put_view) appends.
@@ -86,5 +88,5 @@ pub fn view_size(shape: &Shape, view: &SampleView<'_>) -> u64
     requires room { length (least_sample_text shape.now view.now) < 2 ^ 64 }
     ensures { result ≡ length (least_sample_text shape.now view.now) }
 {
-    sample_size(shape, view.sample())
+    stamp_size(view.stamp()) + values_size(size_of_format(shape.format), view)
 }

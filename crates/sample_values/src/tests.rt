@@ -5,6 +5,7 @@ use super::*;
 use rec_base::Memory;
 use std::alloc::Global;
 use std::test::Fail;
+use xdf_model::Why;
 
 const ONE_SECOND: u64 = 0x3FF0_0000_0000_0000;
 
@@ -119,4 +120,131 @@ fn a_sample_fits_by_its_count_and_each_value(rt: HostRuntime) -> Result<(), Fail
     let format = Format::Int16;
     assert!(rt; !sample_fits(&Shape { count: 3, format }, &sample));
     Ok(())
+}
+
+fn raw(alloc: Global, shape: Shape, count: usize, bytes: &[u8]) -> Result<RawSamples, Fail> {
+    match walk_samples(&shape, count as u64, bytes) {
+        Ok([]) => Ok(RawSamples::from_bytes(alloc, shape, count, bytes)?),
+        _ => Err("other samples".into()),
+    }
+}
+
+// The texts that stand as bytes, whose lengths have the widths 1, 4 and 8.
+const TEXTS: [u8; 34] = [
+    8, 0, 0, 0, 0, 0, 0, 0xF0, 0x3F, 1, 2, b'h', b'i', 4, 3, 0, 0, 0, b'a', b'b', b'c', 0, 8, 0, 0,
+    0, 0, 0, 0, 0, 0, 1, 1, b'x',
+];
+
+#[test]
+fn texts_are_seen_where_they_lie(rt: HostRuntime) -> Result<(), Fail> {
+    let shape = Shape {
+        count: 2,
+        format: Format::Text,
+    };
+    let list = raw(rt.alloc(), shape, 2, &TEXTS)?;
+    assert_eq!(rt; (list.len(), list.has_texts()), (2, true));
+    let mut samples = list.walk();
+    let first = [1, 2, b'h', b'i', 1, 3, b'a', b'b', b'c'];
+    let second = [1, 0, 1, 1, b'x'];
+    for (stamp, texts, least) in [
+        (Stamp::Bits(ONE_SECOND), ["hi", "abc"], first.as_slice()),
+        (Stamp::None, ["", "x"], second.as_slice()),
+    ] {
+        let Some(view) = samples.next() else {
+            return Err("too few samples".into());
+        };
+        assert_eq!(rt; (view.stamp(), view.len()), (stamp, 2));
+        let mut values = view.values();
+        for (i, text) in texts.into_iter().enumerate() {
+            let text = text.as_bytes();
+            assert_eq!(rt; (view.text_at(i), view.bits_at(i)), (Some(text), None));
+            assert_eq!(rt; values.next(), Some(ValueView::Text(text)));
+        }
+        assert_eq!(rt; (view.text_at(2), values.next()), (None, None));
+        assert!(rt; view_fits(&shape, &view));
+        let mut out = Vec::new(rt.alloc());
+        put_view(&shape, &view, &mut out)?;
+        assert!(rt; out.ends_with(least));
+        assert_eq!(rt; view_size(&shape, &view), out.len() as u64);
+    }
+    assert!(rt; samples.next().is_none());
+    Ok(())
+}
+
+#[test]
+fn numbers_are_seen_where_they_lie(rt: HostRuntime) -> Result<(), Fail> {
+    for (format, bytes, stamp, want) in [
+        (
+            Format::Int8,
+            [0, 1, 0xFF].as_slice(),
+            Stamp::None,
+            [1, 0xFF],
+        ),
+        (
+            Format::Int16,
+            [8, 0, 0, 0, 0, 0, 0, 0xF0, 0x3F, 1, 2, 0, 0x80].as_slice(),
+            Stamp::Bits(ONE_SECOND),
+            [0x0201, 0x8000],
+        ),
+        (
+            Format::Double64,
+            [0, 0, 0, 0, 0, 0, 0, 0xF0, 0x3F, 1, 0, 0, 0, 0, 0, 0, 0x80].as_slice(),
+            Stamp::None,
+            [ONE_SECOND, 0x8000_0000_0000_0001],
+        ),
+    ] {
+        let shape = Shape { count: 2, format };
+        let list = raw(rt.alloc(), shape, 1, bytes)?;
+        assert_eq!(rt; (list.len(), list.has_texts()), (1, false));
+        let Some(view) = list.walk().next() else {
+            return Err("no sample".into());
+        };
+        assert_eq!(rt; (view.stamp(), view.len()), (stamp, 2));
+        let mut values = view.values();
+        for (i, bits) in want.into_iter().enumerate() {
+            assert_eq!(rt; (view.bits_at(i), view.text_at(i)), (Some(bits), None));
+            assert_eq!(rt; values.next(), Some(ValueView::Number(bits)));
+        }
+        assert_eq!(rt; (view.bits_at(2), values.next()), (None, None));
+        assert!(rt; view_fits(&shape, &view));
+        let mut out = Vec::new(rt.alloc());
+        put_view(&shape, &view, &mut out)?;
+        assert_eq!(rt; out.as_slice(), bytes);
+    }
+    Ok(())
+}
+
+#[test]
+fn a_small_number_is_written_in_a_wider_format(rt: HostRuntime) -> Result<(), Fail> {
+    let shape = |format| Shape { count: 2, format };
+    let list = raw(rt.alloc(), shape(Format::Int8), 1, &[0, 1, 0xFF])?;
+    let Some(view) = list.walk().next() else {
+        return Err("no sample".into());
+    };
+    assert!(rt; !view_fits(&shape(Format::Text), &view));
+    let wide = shape(Format::Int16);
+    assert!(rt; view_fits(&wide, &view));
+    let mut out = Vec::new(rt.alloc());
+    put_view(&wide, &view, &mut out)?;
+    assert_eq!(rt; out.as_slice(), [0, 1, 0, 0xFF, 0].as_slice());
+    Ok(())
+}
+
+#[test]
+fn a_walk_ends_behind_its_samples(rt: HostRuntime) {
+    let shape = Shape {
+        count: 1,
+        format: Format::Int8,
+    };
+    let stamped = [0, 7, 0, 9, 8, 0, 0, 0, 0, 0, 0, 0xF0, 0x3F, 5, 0, 6];
+    let wrong = |left, why| Err(WalkFault::Wrong { left, why });
+    for (count, bytes, want) in [
+        (0, stamped.as_slice(), Ok(stamped.as_slice())),
+        (3, stamped.as_slice(), Ok([0, 6].as_slice())),
+        (4, stamped.as_slice(), Ok([].as_slice())),
+        (5, stamped.as_slice(), wrong(0, Why::SamplesShort)),
+        (2, [0, 7, 3, 9].as_slice(), wrong(2, Why::BadStampWidth)),
+    ] {
+        assert_eq!(rt; walk_samples(&shape, count, bytes), want, "{count} samples");
+    }
 }

@@ -1,16 +1,25 @@
-ghost use Rattle.std.specs.Prelude.{◌≡◌, length, slice_get};
+ghost use Rattle.std.specs.Prelude.{◌≡◌, IfSome, IsTrue, length, slice_get};
 ghost use Rattle.std.specs.Option.{option_copied};
+ghost use Rattle.xdf_model.specs.Sample.{FitsShape, least_sample_text};
 ghost use Rattle.sample_values.specs.View.{bits_in, text_in};
 
+use crate::raw_view::RawView;
 use crate::sample::Sample;
+use crate::value::ValueWalk;
 use std::marker::Model;
-use xdf_model::Stamp;
+use xdf_model::{Shape, Stamp};
+
+#[derive(Debug, Drop)]
+pub(crate) enum Kind<'a> {
+    Kept(&'a Sample),
+    Raw(RawView<'a>),
+}
 
 /// A sample that stands elsewhere, as in a chunk or a ring: a time stamp and a value for each
-/// channel, as in [`Sample`].
+/// channel, as in [`Sample`]. It stands there as a sample that is kept, or as its bytes in a file.
 #[derive(Debug, Drop)]
 pub struct SampleView<'a> {
-    sample: &'a Sample,
+    pub(crate) kind: Kind<'a>,
 }
 
 impl<'a> Model for SampleView<'a> {
@@ -18,47 +27,97 @@ impl<'a> Model for SampleView<'a> {
 
     ghost Value = { SampleValue };
 
-    ghost view = { λ v. v.sample.now };
+    ghost use Rattle.sample_values.specs.Kinds.{sample_of};
+
+    ghost view = { λ v. sample_of v.kind };
 }
 
 impl<'a> SampleView<'a> {
-    pub(crate) fn of(sample: &'a Sample) -> SampleView<'a>
+    pub(crate) fn kept(sample: &'a Sample) -> SampleView<'a>
         ensures { result ≡ sample.now }
     {
-        SampleView { sample }
+        SampleView {
+            kind: Kind::Kept(sample),
+        }
     }
 
-    pub(crate) fn sample(&self) -> &'a Sample
-        ensures { result.now ≡ self.now }
+    pub(crate) fn raw(view: RawView<'a>) -> SampleView<'a>
+        ensures { result ≡ view.entry }
     {
-        self.sample
+        SampleView {
+            kind: Kind::Raw(view),
+        }
     }
 
     /// The time stamp: the pattern of an IEEE 754 double in seconds, or none.
     pub fn stamp(&self) -> Stamp
         ensures { result ≡ self.now.stamp }
     {
-        self.sample.stamp()
+        match &self.kind {
+            Kind::Kept(sample) => sample.stamp(),
+            Kind::Raw(view) => view.stamp(),
+        }
     }
 
     /// How many values there are.
     pub fn len(&self) -> usize
         ensures { result ≡ length self.now.values }
     {
-        self.sample.len()
+        match &self.kind {
+            Kind::Kept(sample) => sample.len(),
+            Kind::Raw(view) => view.len(),
+        }
     }
 
     /// The pattern of the number of a channel, counted from 0, where a number stands there.
     pub fn bits_at(&self, i: usize) -> Option<u64>
         ensures { result ≡ bits_in (slice_get self.now.values i) }
     {
-        self.sample.bits_at(i)
+        match &self.kind {
+            Kind::Kept(sample) => sample.bits_at(i),
+            Kind::Raw(view) => view.bits_at(i),
+        }
     }
 
-    /// The bytes of the text of a channel, counted from 0, where a text stands there.
+    /// The bytes of the text of a channel, counted from 0, where a text stands there. Among texts that
+    /// stand as bytes it goes past those before, so for all of them [`values`](SampleView::values) is
+    /// the way.
     pub fn text_at(&self, i: usize) -> Option<&[u8]>
         ensures { option_copied result ≡ text_in (slice_get self.now.values i) }
     {
-        self.sample.text_at(i)
+        match &self.kind {
+            Kind::Kept(sample) => sample.text_at(i),
+            Kind::Raw(view) => view.text_at(i),
+        }
+    }
+
+    /// The values in the order of the channels. Nothing is copied, and no memory is taken.
+    pub fn values(&self) -> ValueWalk<'a>
+        ensures { result ≡ self.now.values }
+    {
+        match &self.kind {
+            Kind::Kept(sample) => sample.values(),
+            Kind::Raw(view) => view.values(),
+        }
+    }
+
+    // Whether it stands as bytes of this very shape.
+    pub(crate) fn has_shape(&self, shape: &Shape) -> bool
+        ensures { IsTrue result → FitsShape shape.now self.now }
+    {
+        match &self.kind {
+            Kind::Kept(_) => false,
+            Kind::Raw(view) => view.has_shape(shape),
+        }
+    }
+
+    // The text with the least widths, where it stands as such.
+    pub(crate) fn least_bytes(&self, shape: &Shape) -> Option<&'a [u8]>
+        ensures { IfSome result (λ bytes. bytes.now ≡ least_sample_text shape.now self.now) }
+    {
+        match &self.kind {
+            Kind::Kept(_) => None,
+            Kind::Raw(view) => view.least_bytes(shape),
+        }
     }
 }

@@ -1,10 +1,13 @@
-use Rattle.std.proofs.Common.{◌≡◌, ◌+◌, length, take}
+use Rattle.std.proofs.Common.{◌≡◌, ◌+◌, ◌↔◌, length}
 use Rattle.std.specs.List.{flat_map, AllByRecursion}
 use Rattle.xdf_model.specs.Sample.{FitsShape, least_sample_text}
 use Rattle.chunk_grammar.proofs.fits.behind_samples.Given as goal
 
 abbrev pub invariant-loop-sample : goal.invariant-loop-sample
 invariant-loop-sample l = record {
-  fits : AllByRecursion (FitsShape l.shape) (take l.sample-index l.samples);
-  room : l.left + length (flat_map (least_sample_text l.shape) (take l.sample-index l.samples)) ≡ l.room;
+  fits : AllByRecursion (FitsShape l.shape) l.samples ↔ AllByRecursion (FitsShape l.shape) l.rest;
+  room : l.left + length (flat_map (least_sample_text l.shape) l.samples) ≡ l.room + length (flat_map (least_sample_text l.shape) l.rest);
 }
+
+abbrev pub decreases-loop-sample : goal.decreases-loop-sample
+decreases-loop-sample l = length l.rest

@@ -1,8 +1,15 @@
-use Rattle.std.proofs.Common.{◌≡◌, ◌++◌, map, take}
-use Rattle.std.specs.List.{flat_map}
-use Rattle.xdf_model.specs.Sample.{least_value_text}
-use Rattle.sample_values.specs.View.{value_of}
+use Rattle.std.proofs.Common.{◌≡◌, ◌++◌, length}
+use Rattle.std.specs.List.{flat_map, AllByRecursion}
+use Rattle.xdf_model.specs.Sample.{FitsValue, least_value_text}
+use Rattle.sample_values.specs.View.{KeepsFront}
 use Rattle.sample_values.proofs.put.put_values.Given as goal
 
 abbrev pub invariant-loop-value : goal.invariant-loop-value
-invariant-loop-value l = l.out.items ≡ l.fn.out.items ++ flat_map (least_value_text l.size) (map value_of (take l.value-index l.values))
+invariant-loop-value l = record {
+  fits : AllByRecursion (FitsValue l.size) l.rest;
+  text : l.out.items ++ flat_map (least_value_text l.size) l.rest ≡ l.fn.out.items ++ flat_map (least_value_text l.size) l.fn.values;
+  front : KeepsFront l.fn.out.items l.out.items;
+}
+
+abbrev pub decreases-loop-value : goal.decreases-loop-value
+decreases-loop-value l = length l.rest
