@@ -12,7 +12,7 @@ mod tally;
 
 pub use expected::Expected;
 pub use recording_model::Row;
-pub use row::{read_row, row_sample};
+pub use row::{read_row, read_row_view, row_sample};
 pub use tally::Tally;
 
 #[cfg(test)]

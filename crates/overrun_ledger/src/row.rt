@@ -4,7 +4,7 @@ ghost use Rattle.recording_model.specs.Ledger.{is_in_range, row_in, row_sample};
 
 use rec_base::Memory;
 use recording_model::Row;
-use sample_values::{Sample, Stamp};
+use sample_values::{Sample, SampleView, Stamp};
 use std::alloc::Global;
 
 /// The sample that stands for a row in the ledger stream: the stream's id, the first missing position
@@ -33,6 +33,16 @@ fn in_range(stream: u64, first: u64, count: u64) -> bool
 /// The row that a sample stands for, where it is the sample of a row in range. It takes no memory.
 /// This project's own.
 pub fn read_row(sample: &Sample) -> Option<Row>
+    ensures exact { result ≡ row_in sample.now }
+    ensures some { IfSome result (λ row. IsTrue (is_in_range row)) }
+    ensures sample { IfSome result (λ row. sample.now ≡ row_sample row) }
+    ensures each { (row : RowValue) → IsTrue (is_in_range row) → sample.now ≡ row_sample row → result ≡ Some row }
+{
+    read_row_view(&sample.view())
+}
+
+/// The same of a sample that stands elsewhere, read where it lies.
+pub fn read_row_view(sample: &SampleView<'_>) -> Option<Row>
     ensures exact { result ≡ row_in sample.now }
     ensures some { IfSome result (λ row. IsTrue (is_in_range row)) }
     ensures sample { IfSome result (λ row. sample.now ≡ row_sample row) }

@@ -5,16 +5,20 @@ ghost use Rattle.std.specs.Option.{option_copied};
 ghost use Rattle.std.specs.Str.Parse.{digits_value, AllDigits};
 ghost use Rattle.xdf_model.specs.Shape.{behind_first, digits_front};
 
-// What stands behind the first occurrence of a pattern.
-pub(crate) fn behind<'a>(pattern: &[u8], doc: &'a [u8]) -> Option<&'a [u8]>
+use memchr::memmem;
+
+/// What stands behind the first occurrence of a pattern in a document, or `None` where it doesn't
+/// occur. In an empty document nothing does, not even the empty pattern.
+pub fn behind<'a>(pattern: &[u8], doc: &'a [u8]) -> Option<&'a [u8]>
     ensures { option_copied result ≡ behind_first pattern.now doc.now }
 {
-    for i in 0..doc.len() {
-        if doc[i..].starts_with(pattern) {
-            return Some(&doc[i + pattern.len()..]);
-        }
+    if doc.is_empty() {
+        return None;
     }
-    None
+    match memmem::find(doc, pattern) {
+        Some(i) => Some(&doc[i + pattern.len()..]),
+        None => None,
+    }
 }
 
 // How many decimal digits stand at the front.

@@ -6,7 +6,8 @@
 //! "StreamHeader chunk", and two numbers of "StreamFooter chunk". This crate promises that the answer
 //! is that of the definition, also where the document has no shape: it then tells the first reason.
 //!
-//! A document is gone over once for each element. Nothing is copied, and no memory is taken.
+//! A document is gone over once for each element, by `memchr`. Nothing is copied, and no memory is
+//! taken.
 #![tactic(auto)]
 
 mod footer;
@@ -14,6 +15,7 @@ mod front;
 mod header;
 
 pub use footer::{Element, find_number};
+pub use front::behind;
 pub use header::find_shape;
 pub use xdf_model::{Format, NoShape, Shape};
 

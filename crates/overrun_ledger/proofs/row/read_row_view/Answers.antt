@@ -3,7 +3,7 @@ use Rattle.std.proofs.lemmas.Grind.{common_steps}
 use Rattle.recording_model.specs.declared.row.Row.{Row}
 use Rattle.recording_model.specs.Ledger.{row_in}
 use Rattle.overrun_ledger.proofs.Rows.{row_in_is}
-use Rattle.overrun_ledger.proofs.row.read_row.Goals as goal
+use Rattle.overrun_ledger.proofs.row.read_row_view.Goals as goal
 
 pub returns-clause-sample : goal.returns-clause-sample
 returns-clause-sample c =
