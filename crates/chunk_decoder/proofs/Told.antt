@@ -18,6 +18,10 @@ use Rattle.chunk_laws.proofs.Places.{at_exact, at_complete}
 use Rattle.chunk_decoder.specs.declared.place.Step.{Step}
 use Rattle.chunk_decoder.specs.declared.place.Step.TheVariants.{Whole, Torn, Bad, Memory}
 use Rattle.chunk_decoder.specs.Answers.{Answers}
+use Rattle.chunk_decoder.specs.declared.view.ChunkView.{ChunkView}
+use Rattle.chunk_decoder.specs.declared.place.Viewed.{Viewed}
+use Rattle.chunk_decoder.specs.declared.place.Viewed.TheVariants as view
+use Rattle.chunk_decoder.specs.Viewed.{chunk_in, standing_of}
 
 pub is_whole : (ctx : Context) (b : List ℕ) (r : Step) → IsBytes b → Answers r (standing_at ctx b) → (c : Chunk) (used : ℕ) → r ≡ Whole c used
     → (used ≤ length b) × IsChunkText ctx c (take used b)
@@ -57,12 +61,14 @@ length-text ctx c b r =
     let front : 2 ≤ length r.len = length-varlen (2 + length r.content) r.len r.number in
     omega (arith, ap length r.whole, length-append (r.len ++ tag) r.content, length-append r.len tag, length-little_bytes 2 (tag_of c))
 
-pub is_sized : (ctx : Context) (b : List ℕ) (r : Step) → IsBytes b → Answers r (standing_at ctx b) → (c : Chunk) (used : ℕ) → r ≡ Whole c used
-    → (4 ≤ used) × (used ≤ length b)
-is_sized ctx b r h told c used e =
-    let text = is_whole ctx b r h told c used e in
+text_sized : (ctx : Context) (c : Chunk) (b : List ℕ) (used : ℕ) → (used ≤ length b) × IsChunkText ctx c (take used b) → (4 ≤ used) × (used ≤ length b)
+text_sized ctx c b used text =
     let least : 4 ≤ length (take used b) = length-text ctx c (take used b) text.1 in
     (omega (arith, text.0, length-take used b), text.0)
+
+pub is_sized : (ctx : Context) (b : List ℕ) (r : Step) → IsBytes b → Answers r (standing_at ctx b) → (c : Chunk) (used : ℕ) → r ≡ Whole c used
+    → (4 ≤ used) × (used ≤ length b)
+is_sized ctx b r h told c used e = text_sized ctx c b used (is_whole ctx b r h told c used e)
 
 -- ---- A bad place is within the bytes.
 
@@ -95,8 +101,22 @@ from_within ctx b (num.BadWidth w) h front place reason e =
     let first : 0 ≡ place = cc in
     omega arith
 
-pub is_placed : (ctx : Context) (b : List ℕ) (r : Step) → IsBytes b → Answers r (standing_at ctx b) → (place : ℕ) (reason : Why) → r ≡ Bad place reason → place ≤ length b
+standing_within : (ctx : Context) (b : List ℕ) → IsBytes b → (place : ℕ) (reason : Why) → standing_at ctx b ≡ bad place reason → place ≤ length b
 unfolding standing_at
-is_placed ctx b r h told place reason e =
-    let stands : standing_at ctx b ≡ bad place reason = subst (λ (t : Step). Answers t (standing_at ctx b)) e told in
-    from_within ctx b (varlen_at b) h refl place reason stands
+standing_within ctx b h place reason e = from_within ctx b (varlen_at b) h refl place reason e
+
+pub is_placed : (ctx : Context) (b : List ℕ) (r : Step) → IsBytes b → Answers r (standing_at ctx b) → (place : ℕ) (reason : Why) → r ≡ Bad place reason → place ≤ length b
+is_placed ctx b r h told place reason e = standing_within ctx b h place reason (subst (λ (t : Step). Answers t (standing_at ctx b)) e told)
+
+-- ---- the same of a chunk where it lies
+
+pub view_whole : (ctx : Context) (b : List ℕ) (r : Viewed) → IsBytes b → standing_at ctx b ≡ standing_of r → (c : ChunkView) (used : ℕ) → r ≡ view.Whole c used
+    → (used ≤ length b) × IsChunkText ctx (chunk_in c) (take used b)
+view_whole ctx b r h told c used e = (at_exact ctx b (chunk_in c) used h).0 (told ∙ ap standing_of e)
+
+pub view_placed : (ctx : Context) (b : List ℕ) (r : Viewed) → IsBytes b → standing_at ctx b ≡ standing_of r → (place : ℕ) (reason : Why) → r ≡ view.Bad place reason → place ≤ length b
+view_placed ctx b r h told place reason e = standing_within ctx b h place reason (told ∙ ap standing_of e)
+
+pub view_sized : (ctx : Context) (b : List ℕ) (r : Viewed) → IsBytes b → standing_at ctx b ≡ standing_of r → (c : ChunkView) (used : ℕ) → r ≡ view.Whole c used
+    → (4 ≤ used) × (used ≤ length b)
+view_sized ctx b r h told c used e = text_sized ctx (chunk_in c) b used (view_whole ctx b r h told c used e)

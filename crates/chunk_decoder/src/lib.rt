@@ -5,10 +5,12 @@
 //! seven kinds is whole exactly where a text of it stands, with any width of each number; a chunk
 //! that is cut is torn; and of several faults the first from the left is told, with its place.
 //!
+//! `view_chunk` judges a chunk where it lies and takes no memory: samples are walked over, and no
+//! value is made. `read_chunk` gives the value too, by one copy of a document, a body or a chunk's
+//! samples, which stay as their bytes. The document of a stream header is gone over for its shape.
+//!
 //! A length, a count or a width that the bytes don't bear out costs no memory, and no time beyond the
-//! bytes that are there: a chunk is looked into once all of its bytes are, and a value is kept once
-//! its own bytes are. A document or a body is copied once, into a `Blob`; a value of a sample is
-//! copied once, into its `Sample`. The document of a stream header is gone over for its shape first.
+//! bytes that are there: a chunk is looked into once all of its bytes are.
 #![tactic(auto)]
 
 mod content;
@@ -16,8 +18,11 @@ mod fault;
 mod fields;
 mod place;
 mod samples;
+mod view;
 
-pub use place::{Step, read_chunk};
+pub use place::{Step, Viewed, read_chunk, view_chunk};
+pub use samples::SamplesAt;
+pub use view::ChunkView;
 pub use xdf_model::Why;
 
 #[cfg(test)]

@@ -17,7 +17,7 @@ use Rattle.file_model.specs.Reader.{FileState, file_rules, end_reading}
 use Rattle.file_reader.specs.FileInlet.{FileInlet, HasStopped, IsSkipped, KeepsAll, RestIs, Stops, Tells}
 use Rattle.file_reader.specs.declared.rest.Rest.{Rest}
 use Rattle.file_reader.specs.Kept.{IsOfBytes, with_more, with_reading}
-use Rattle.file_reader.proofs.Passed.{seen}
+use Rattle.file_reader.proofs.Passing.{seen}
 use Rattle.file_reader.proofs.Rooms.{rest_size}
 
 -- bytes that are taken behind a bad place change nothing

@@ -1,6 +1,6 @@
 pub mod Steady
 pub mod Outlooks
-pub mod Passed
+pub mod Passing
 pub mod Openings
 pub mod Torn
 pub mod Rooms

@@ -8,6 +8,7 @@ use Rattle.piece_reader.specs.Steps.{Carried, Takes, Wants, end_of, gained, work
 use Rattle.piece_reader.proofs.Steps.{coming_gained, coming_end, work_gained, none_gained}
 use Rattle.piece_reader.proofs.Passing.{passes_item, ends_take}
 use Rattle.piece_reader.proofs.Carrying.{carried_read, answered_kept, answered_ended, answered_failed, answered_over, over_as}
+use Rattle.chunk_grammar.specs.declared.chunk.Chunk.{Chunk as ChunkValue}
 use Rattle.chunk_grammar.specs.Chunk.{Context, context_after, IsChunkText}
 use Rattle.file_model.specs.declared.end.FileEnd.{FileEnd}
 use Rattle.file_model.specs.declared.end.FileEnd.TheVariants as over
@@ -15,6 +16,9 @@ use Rattle.file_model.specs.declared.next.Next.{Next}
 use Rattle.file_model.specs.declared.next.Next.TheVariants.{Chunk, End, Torn, Bad, ReadFault, SizeLimit, Memory}
 use Rattle.file_model.specs.Reader.{FileState, ChunkAt, file_kind, file_rules, end_reading}
 use Rattle.file_reader.specs.declared.kept.Inner.TheVariants.{Answer}
+use Rattle.file_reader.specs.declared.passed.Passed.{Passed}
+use Rattle.file_reader.specs.declared.passed.Passed.TheVariants as passed
+use Rattle.file_reader.specs.AsNext.{as_next, next_in, passed_end}
 use Rattle.file_reader.specs.FileInlet.{FileInlet, IsGiven, end_in, got, outlook}
 use Rattle.file_reader.specs.Kept.{Does, IsGoing, TakesGot, with_more, with_reading}
 use Rattle.file_reader.proofs.Steady.{steady_file}
@@ -30,9 +34,6 @@ takes_got (item c) old new g t = passes_item file_rules steady_file old new c t
 takes_got (end e) old new g t = subst (λ (x : Reading FileState FileEnd). Takes file_kind (outlook_of file_rules old) (outlook_of file_rules x) (end e)) (sym t.1) (ends_take file_rules steady_file old e t.0)
 takes_got nothing old new g t = subst (λ (x : Reading FileState FileEnd). Takes file_kind (outlook_of file_rules old) (outlook_of file_rules x) nothing) (sym t) (going_is old g, λ more how. refl)
 
-pub answered_step : (next : Next) (old mid new : FileInlet) (a b : Option (List ℕ)) → Carried (outlook old) (outlook mid) a b → IsGoing mid.reading → Does mid new (Answer next) → Answered file_kind (outlook old) (outlook new) a b (got next)
-answered_step next old mid new a b k g d = answered_kept file_kind (got next) (outlook old) (outlook mid) (outlook new) a b k (takes_got (got next) mid.reading new.reading g d.0)
-
 -- ---- nothing answered yet: all but the reading is as it was, and no last chunk's bytes are held
 
 pub record Same (old new : FileInlet) : Type 0 where
@@ -40,6 +41,16 @@ pub record Same (old new : FileInlet) : Type 0 where
   pub context : new.context ≡ old.context
   pub place : new.place ≡ old.place
   pub limit : new.byte_limit ≡ old.byte_limit
+
+-- what is told is told the same of the start
+pub same_next : (p : Passed) (old mid new : FileInlet) → Same old mid → next_in mid new p ≡ next_in old new p
+same_next p old mid new s = ap (λ (x : Context). as_next x new.last p) s.context
+
+pub answered_step : (p : Passed) (value : Option ChunkValue) (old mid new : FileInlet) (a b : Option (List ℕ)) → Carried (outlook old) (outlook mid) a b → IsGoing mid.reading → Same old mid → Does mid new (Answer p value)
+    → Answered file_kind (outlook old) (outlook new) a b (got (next_in old new p))
+answered_step p value old mid new a b k g s d =
+    let here = answered_kept file_kind (got (next_in mid new p)) (outlook old) (outlook mid) (outlook new) a b k (takes_got (got (next_in mid new p)) mid.reading new.reading g d.0) in
+    subst (λ (n : Next). Answered file_kind (outlook old) (outlook new) a b (got n)) (same_next p old mid new s) here
 
 pub given_same : (next : Next) (old mid new : FileInlet) → Same old mid → IsGiven mid new next → IsGiven old new next
 given_same (Chunk at c) old mid new s h = (
@@ -55,6 +66,9 @@ given_same (Bad at why) old mid new s h = (h.0, h.1 ∙ s.place, h.2 ∙ s.conte
 given_same ReadFault old mid new s h = (h.0, h.1 ∙ s.place, h.2 ∙ s.context)
 given_same SizeLimit old mid new s h = (h.0, h.1 ∙ s.place, h.2 ∙ s.context)
 given_same Memory old mid new s h = (h.0, h.1 ∙ s.place, h.2 ∙ s.context)
+
+pub given_step : (p : Passed) (value : Option ChunkValue) (old mid new : FileInlet) → Same old mid → Does mid new (Answer p value) → IsGiven old new (next_in old new p)
+given_step p value old mid new s d = subst (λ (n : Next). IsGiven old new n) (same_next p old mid new s) (given_same (next_in mid new p) old mid new s d.1)
 
 pub same_reading : (old mid new : FileInlet) (reading : Reading FileState FileEnd) → Same old mid → new ≡ with_reading mid reading → Same old new
 same_reading old mid new reading s e = subst (λ (x : FileInlet). Same old x) (sym e) (record { fresh = s.fresh; context = s.context; place = s.place; limit = s.limit })
@@ -158,10 +172,29 @@ answered_fault next old mid new a b k w v o =
     let there : Answered file_kind (outlook old) (outlook new) a b (end over.ReadFault) = subst (λ (x : FileInlet). Answered file_kind (outlook old) (outlook x) a b (end over.ReadFault)) (sym o) here in
     subst (λ (x : Next). Answered file_kind (outlook old) (outlook new) a b (got x)) (sym v) there
 
-pub answered_before : (next : Next) (x : Reading FileState FileEnd) (left : Option (List ℕ)) (e : FileEnd) → Some e ≡ end_in x → next ≡ end_reading e → Answered file_kind (outlook_of file_rules x) (outlook_of file_rules x) left left (got next)
-answered_before next (going s rest room) left e h v = absurd cc
-answered_before next (done x) left e h v =
+-- an end is told as it was answered
+told_end : (context : Context) (text : List ℕ) (e : FileEnd) → as_next context text (passed_end e) ≡ end_reading e
+told_end context text (over.End at) = refl
+told_end context text (over.Torn at left) = refl
+told_end context text (over.Bad at why) = refl
+told_end context text over.ReadFault = refl
+told_end context text over.SizeLimit = refl
+
+pub answered_before : (p : Passed) (context : Context) (text : List ℕ) (x : Reading FileState FileEnd) (left : Option (List ℕ)) (e : FileEnd) → Some e ≡ end_in x → p ≡ passed_end e
+    → Answered file_kind (outlook_of file_rules x) (outlook_of file_rules x) left left (got (as_next context text p))
+answered_before p context text (going s rest room) left e h v = absurd cc
+answered_before p context text (done x) left e h v =
     let same : x ≡ e = cc in
     let here : Answered file_kind (outlook_of file_rules (done x)) (outlook_of file_rules (done x)) left left (end e) =
     subst (λ (y : FileEnd). Answered file_kind (outlook_of file_rules (done x)) (outlook_of file_rules (done x)) left left (end y)) same (answered_over file_kind file_rules x left) in
-    subst (λ (g : Got ChunkAt FileEnd). Answered file_kind (outlook_of file_rules (done x)) (outlook_of file_rules (done x)) left left g) (sym (ap got v ∙ got_end e)) here
+    subst (λ (g : Got ChunkAt FileEnd). Answered file_kind (outlook_of file_rules (done x)) (outlook_of file_rules (done x)) left left g) (sym (ap (λ (q : Passed). got (as_next context text q)) v ∙ ap got (told_end context text e) ∙ got_end e)) here
+
+-- what is told as a failed read is one
+pub passed_fault : (context : Context) (text : List ℕ) (p : Passed) → as_next context text p ≡ ReadFault → p ≡ passed.ReadFault
+passed_fault context text (passed.Chunk at) e = absurd cc
+passed_fault context text (passed.End at) e = absurd cc
+passed_fault context text (passed.Torn at left) e = absurd cc
+passed_fault context text (passed.Bad at why) e = absurd cc
+passed_fault context text passed.ReadFault e = refl
+passed_fault context text passed.SizeLimit e = absurd cc
+passed_fault context text passed.Memory e = absurd cc

@@ -9,7 +9,7 @@ use Rattle.chunk_grammar.specs.Standing.{Standing, whole, torn, bad, standing_at
 use Rattle.file_model.specs.declared.end.FileEnd.{FileEnd}
 use Rattle.file_model.specs.Reader.{FileState, by_standing, file_rules}
 use Rattle.file_reader.specs.FileInlet.{FileInlet}
-use Rattle.file_reader.proofs.Passed.{seen}
+use Rattle.file_reader.proofs.Passing.{seen}
 use Rattle.file_reader.proofs.Torn.{torn_size}
 
 -- a read adds no more than was asked for

@@ -11,6 +11,7 @@ use Rattle.file_model.specs.Reader.{FileState, ChunkAt, file_rules}
 use Rattle.file_reader.specs.declared.kept.Inner.{Inner}
 use Rattle.file_reader.specs.declared.kept.Inner.TheVariants.{Answer, Want}
 use Rattle.file_reader.specs.FileInlet.{FileInlet, IsGiven, Tells, got}
+use Rattle.file_reader.specs.AsNext.{HasValue, next_in}
 
 -- where it stands, once the end was answered or not
 abbrev pub reading_of : Option FileEnd → FileState → List ℕ → ℕ → Reading FileState FileEnd
@@ -44,10 +45,19 @@ TakesGot old new (item c) = Passes file_rules old (Some c) new
 TakesGot old new (end e) = EndsAs file_rules old e × (new ≡ done e)
 TakesGot old new nothing = new ≡ old
 
+-- an answer of the bytes that were taken
+abbrev pub Answers : FileInlet → FileInlet → Next → Type 0
+Answers old new next = TakesGot old.reading new.reading (got next) × IsGiven old new next × (new.byte_limit ≡ old.byte_limit)
+
 -- what was answered of the bytes that were taken, or that more are wanted
 abbrev pub Does : FileInlet → FileInlet → Inner → Type 0
-Does old new (Answer next) = TakesGot old.reading new.reading (got next) × IsGiven old new next × (new.byte_limit ≡ old.byte_limit)
+Does old new (Answer passed value) = Answers old new (next_in old new passed)
 Does old new Want = Wants file_rules old.reading × (new ≡ old)
+
+-- the answer comes with the chunk's value
+abbrev pub Values : FileInlet → FileInlet → Inner → Type 0
+Values old new (Answer passed value) = HasValue (next_in old new passed) value
+Values old new Want = ⊤
 
 -- an answer that the bytes alone give, whether the input ended or not
 abbrev pub IsOfBytes : Next → Type 0
@@ -57,5 +67,5 @@ IsOfBytes _ = ⊤
 
 -- what an answer of the bytes that were taken tells of them
 abbrev pub Shows : FileInlet → FileInlet → Inner → Type 0
-Shows old new (Answer next) = (old.ahead ≡ new.last ++ new.ahead) × IsOfBytes next × Tells new next
+Shows old new (Answer passed value) = (old.ahead ≡ new.last ++ new.ahead) × IsOfBytes (next_in old new passed) × Tells new (next_in old new passed)
 Shows old new Want = ⊤

@@ -1,2 +1,3 @@
 pub mod FileInlet
+pub mod AsNext
 pub mod Kept

@@ -1,23 +1,26 @@
 //! What a reader of a file keeps between two reads.
 
-ghost use Rattle.std.specs.Prelude.{◌≡◌, ◌≤◌, ◌<◌, ◌+◌, ◌-◌, ◌^◌, ℕ, List, [], length, take, IsTrue, false, IfOk, OnErr, IsErrOf};
+ghost use Rattle.std.specs.Prelude.{◌≡◌, ◌≤◌, ◌<◌, ◌+◌, ◌-◌, ◌^◌, ℕ, List, [], Some, length, take, IsTrue, false, IfOk, OnErr, IsErrOf};
 ghost use Rattle.std.specs.Io.KnownBytes.{IsAtEnd, Keeps, Consumes};
 ghost use Rattle.rec_base.specs.Causes.{Rose};
 ghost use Rattle.reading_model.specs.Outlook.{ended};
 ghost use Rattle.reading_model.specs.Reading.{going, done};
 ghost use Rattle.piece_reader.specs.Held.{HeldBytes};
 ghost use Rattle.piece_reader.specs.Steps.{EndsAs, Wants, end_of};
-ghost use Rattle.chunk_grammar.specs.Chunk.{context_after};
+ghost use Rattle.chunk_grammar.specs.Chunk.{Context as Streams, context_after};
 ghost use Rattle.file_model.specs.Reader.{behind_magic, end_reading, file_rules};
 ghost use Rattle.file_reader.specs.FileInlet.{FileInlet, IsHeld, StandsAt, Tells, end_in, had_ended};
-ghost use Rattle.file_reader.specs.Kept.{Does, IsGoing, IsOfBytes, IsShort, Shows, with_more, with_reading, without_last};
+ghost use Rattle.chunk_decoder.specs.Viewed.{chunk_in};
+ghost use Rattle.file_reader.specs.AsNext.{as_next, passed_end};
+ghost use Rattle.file_reader.specs.Kept.{Does, IsGoing, IsOfBytes, IsShort, Shows, Values, with_more, with_reading, without_last};
 
 use crate::missing::missing;
-use chunk_decoder::{Step, read_chunk};
+use crate::passed::Passed;
+use chunk_decoder::{ChunkView, Viewed, view_chunk};
 use chunk_grammar::{Chunk, Context};
-use file_model::{FileEnd, Next};
+use file_model::FileEnd;
 use piece_reader::{Held, PieceFault};
-use rec_base::Source;
+use rec_base::{Memory, Source};
 use std::alloc::Global;
 use std::marker::Model;
 
@@ -27,8 +30,8 @@ pub(crate) const PIECE: usize = 65_536;
 /// What the bytes that were taken say.
 #[derive(Debug, Drop)]
 pub(crate) enum Inner {
-    /// This is the answer.
-    Answer(Next),
+    /// This is the answer, and the chunk's value where it was wanted.
+    Answer(Passed, Option<Chunk>),
     /// More bytes are wanted.
     Want,
 }
@@ -75,26 +78,38 @@ fn counted(bytes: &[u8], room: usize) -> &[u8]
 }
 
 // Whether there was memory for the context after the chunk, which fits the context.
-fn pass_chunk(context: &mut Context, chunk: &Chunk) -> bool
-    ensures ok { IsTrue result → context.new ≡ context_after context.old chunk.now }
+fn pass_chunk(context: &mut Context, chunk: &ChunkView<'_>) -> bool
+    ensures ok { IsTrue result → context.new ≡ context_after context.old (chunk_in chunk.now) }
     ensures memory { result ≡ false → context.new ≡ context.old }
 {
     match chunk {
-        Chunk::StreamHeader { id, doc } => context.context_add(*id, doc.bytes()).is_ok(),
+        ChunkView::StreamHeader { id, doc } => context.context_add(*id, doc).is_ok(),
         _ => true,
     }
 }
 
-// An end, as it is answered.
-pub(crate) fn next_of(end: FileEnd) -> Next
-    ensures { result ≡ end_reading end }
+// The chunk's value, where it is wanted.
+fn value_of(alloc: Global, wanted: bool, chunk: &ChunkView<'_>) -> Result<Option<Chunk>, Memory>
+    ensures { IsTrue wanted → IfOk result (λ value. value ≡ Some (chunk_in chunk.now)) }
+{
+    if wanted {
+        Ok(Some(chunk.copy(alloc)?))
+    } else {
+        Ok(None)
+    }
+}
+
+/// An end, as it is told.
+pub(crate) fn passed_of(end: FileEnd) -> Passed
+    ensures value { result ≡ passed_end end }
+    ensures told { (context : Streams) (text : List ℕ) → as_next context text result ≡ end_reading end }
 {
     match end {
-        FileEnd::End { at } => Next::End { at },
-        FileEnd::Torn { at, left } => Next::Torn { at, left },
-        FileEnd::Bad { at, why } => Next::Bad { at, why },
-        FileEnd::ReadFault => Next::ReadFault,
-        FileEnd::SizeLimit => Next::SizeLimit,
+        FileEnd::End { at } => Passed::End { at },
+        FileEnd::Torn { at, left } => Passed::Torn { at, left },
+        FileEnd::Bad { at, why } => Passed::Bad { at, why },
+        FileEnd::ReadFault => Passed::ReadFault,
+        FileEnd::SizeLimit => Passed::SizeLimit,
     }
 }
 
@@ -179,13 +194,14 @@ impl KeptFile {
     }
 
     // Ends the reading.
-    fn finish(&mut self, end: FileEnd) -> Next
+    fn finish(&mut self, end: FileEnd) -> Passed
         ensures over { self.new ≡ with_reading self.old (done end) }
-        ensures value { result ≡ end_reading end }
+        ensures value { result ≡ passed_end end }
+        ensures told { (context : Streams) (text : List ℕ) → as_next context text result ≡ end_reading end }
         ensures stands { StandsAt self.new self.new.reading }
     {
         self.ending = Some(end);
-        next_of(end)
+        passed_of(end)
     }
 
     // Ends the reading by the bytes that were taken.
@@ -196,9 +212,10 @@ impl KeptFile {
         requires of_bytes { IsOfBytes (end_reading end) }
         ensures does { Does self.old self.new result }
         ensures shows { Shows self.old self.new result }
+        ensures values { Values self.old self.new result }
         ensures stands { StandsAt self.new self.new.reading }
     {
-        Inner::Answer(self.finish(end))
+        Inner::Answer(self.finish(end), None)
     }
 
     // Asks for more bytes, if more count.
@@ -207,6 +224,7 @@ impl KeptFile {
         requires fresh { self.old.last ≡ [] }
         ensures does { Does self.old self.new result }
         ensures shows { Shows self.old self.new result }
+        ensures values { Values self.old self.new result }
         ensures stands { StandsAt self.new self.new.reading }
     {
         if self.held.bytes().len() - self.last > self.byte_limit - self.place {
@@ -216,41 +234,46 @@ impl KeptFile {
         }
     }
 
-    /// What the bytes that were taken say, if they say something.
-    pub(crate) fn step(&mut self) -> Inner
+    /// What the bytes that were taken say, if they say something; of a chunk with its value, where that
+    /// is wanted.
+    pub(crate) fn step(&mut self, wanted: bool) -> Inner
         requires going { IsGoing self.old.reading }
         requires fresh { self.old.last ≡ [] }
         ensures does { Does self.old self.new result }
         ensures shows { Shows self.old self.new result }
+        ensures values { IsTrue wanted → Values self.old self.new result }
         ensures stands { StandsAt self.new self.new.reading }
     {
         let place = self.place;
         let bytes = counted(&self.held.bytes()[self.last..], self.byte_limit - place);
-        match read_chunk(self.alloc, &self.context, bytes) {
-            Step::Whole { chunk, used } => {
+        match view_chunk(&self.context, bytes) {
+            Viewed::Whole { chunk, used } => {
+                let Ok(value) = value_of(self.alloc, wanted, &chunk) else {
+                    return Inner::Answer(Passed::Memory, None);
+                };
                 if !pass_chunk(&mut self.context, &chunk) {
-                    return Inner::Answer(Next::Memory);
+                    return Inner::Answer(Passed::Memory, None);
                 }
                 self.held.pass(self.last);
                 self.last = used;
                 self.place += used;
                 let at = place as u64;
-                Inner::Answer(Next::Chunk { at, chunk })
+                Inner::Answer(Passed::Chunk { at }, value)
             }
-            Step::Torn => self.ask(),
-            Step::Bad { at, why } => {
+            Viewed::Torn => self.ask(),
+            Viewed::Bad { at, why } => {
                 let at = (place + at) as u64;
                 self.stop(FileEnd::Bad { at, why })
             }
-            Step::Memory => Inner::Answer(Next::Memory),
         }
     }
 
     /// The end where no byte is left.
-    pub(crate) fn end_input(&mut self) -> Next
+    pub(crate) fn end_input(&mut self) -> Passed
         requires { Wants file_rules self.old.reading }
-        ensures tells { Tells self.new result }
-        ensures value { result ≡ end_reading (end_of file_rules self.old.reading ended) }
+        ensures tells { (context : Streams) (text : List ℕ) → Tells self.new (as_next context text result) }
+        ensures told { (context : Streams) (text : List ℕ) → as_next context text result ≡ end_reading (end_of file_rules self.old.reading ended) }
+        ensures no_fault { result ≡ Passed.ReadFault → ⊥ }
         ensures over { self.new ≡ with_reading self.old (done (end_of file_rules self.old.reading ended)) }
         ensures stands { StandsAt self.new self.new.reading }
     {
@@ -264,10 +287,10 @@ impl KeptFile {
     }
 
     /// The end where a read failed.
-    pub(crate) fn fail(&mut self) -> Next
+    pub(crate) fn fail(&mut self) -> Passed
         requires { Wants file_rules self.old.reading }
-        ensures value { result ≡ Next.ReadFault }
-        ensures tells { Tells self.new result }
+        ensures value { result ≡ Passed.ReadFault }
+        ensures tells { (context : Streams) (text : List ℕ) → Tells self.new (as_next context text result) }
         ensures over { self.new ≡ with_reading self.old (done FileEnd.ReadFault) }
         ensures stands { StandsAt self.new self.new.reading }
     {

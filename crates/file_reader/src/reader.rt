@@ -9,14 +9,16 @@ ghost use Rattle.reading_model.specs.Outlook.{Answered, How};
 ghost use Rattle.chunk_grammar.specs.Chunk.{magic};
 ghost use Rattle.file_model.specs.Reader.{file_counted, file_kind};
 ghost use Rattle.file_reader.specs.FileInlet.{HasStopped, IsGiven, IsHeld, IsNotXdf, IsSameEnd, IsSkipped, KeepsAll, StandsAt, Stops, Tells, got, had_ended, outlook};
+ghost use Rattle.file_reader.specs.AsNext.{HasValue, next_in};
 ghost use Rattle.file_reader.specs.declared.rest.Rest.{Rest as RestValue};
 ghost use Rattle.file_reader.specs.Kept.{IsGoing, without_last};
 
 use crate::fault::FileFault;
-use crate::kept::{Inner, KeptFile, PIECE, next_of};
+use crate::kept::{Inner, KeptFile, PIECE, passed_of};
+use crate::passed::{Passed, next_with};
 use crate::rest::Rest;
 use crate::skip::skip_source;
-use chunk_grammar::Context;
+use chunk_grammar::{Chunk, Context};
 use file_model::Next;
 use piece_reader::{Held, PieceFault};
 use rec_base::Source;
@@ -121,37 +123,84 @@ impl<S: Source> FileReader<S> {
         ensures high { self.new.file.byte_limit ≤ 2 ^ 40 }
         ensures skipped { self.new.skipped ≡ self.old.skipped }
     {
+        let (passed, value) = self.go_on(true);
+        next_with(passed, value)
+    }
+
+    /// The same, with no value made of a chunk: it is judged as `next` judges it, and its bytes are those
+    /// of `last_bytes`. The answers are those of `next`, with the value of the chunk left out; so a caller
+    /// may mix both calls.
+    pub fn pass(&mut self) -> Passed
+        ensures answer { Answered file_kind (outlook self.old.file) (outlook self.new.file) (S.left self.old.source) (S.left self.new.source) (got (next_in self.old.file self.new.file result)) }
+        ensures chunk { IsGiven self.old.file self.new.file (next_in self.old.file self.new.file result) }
+        ensures limit { self.new.file.byte_limit ≡ self.old.file.byte_limit }
+        ensures stands { StandsAt self.new.file self.new.file.reading }
+        ensures stays { IsTrue (outlook self.old.file).is_over → (self.new.source ≡ self.old.source) × (self.new.file ≡ without_last self.old.file) }
+        ensures same_end { IsTrue (outlook self.old.file).is_over → IsSameEnd self.old.file.reading (next_in self.old.file self.new.file result) }
+        ensures cause { (outlook self.old.file).is_over ≡ false → result ≡ Passed.ReadFault → Rose (S.faults self.old.source) (S.faults self.new.source) }
+        ensures later { S.faults self.old.source ≤ S.faults self.new.source }
+        ensures marked { S.mark self.new.source ≡ S.mark self.old.source }
+        ensures left { Loses (S.left self.old.source) (S.left self.new.source) }
+        ensures keeps { KeepsAll (S.left self.old.source) (S.left self.new.source) self.old.file self.new.file }
+        ensures tells { (outlook self.old.file).is_over ≡ false → Tells self.new.file (next_in self.old.file self.new.file result) }
+        ensures stops { (outlook self.old.file).is_over ≡ false → Stops (S.left self.new.source) self.new.file (next_in self.old.file self.new.file result) }
+        ensures high { self.new.file.byte_limit ≤ 2 ^ 40 }
+        ensures skipped { self.new.skipped ≡ self.old.skipped }
+    {
+        self.go_on(false).0
+    }
+
+    // The answer of `pass`, and the chunk's value where it is wanted.
+    fn go_on(&mut self, wanted: bool) -> (Passed, Option<Chunk>)
+        ensures answer { Answered file_kind (outlook self.old.file) (outlook self.new.file) (S.left self.old.source) (S.left self.new.source) (got (next_in self.old.file self.new.file result.0)) }
+        ensures chunk { IsGiven self.old.file self.new.file (next_in self.old.file self.new.file result.0) }
+        ensures value { IsTrue wanted → HasValue (next_in self.old.file self.new.file result.0) result.1 }
+        ensures limit { self.new.file.byte_limit ≡ self.old.file.byte_limit }
+        ensures stands { StandsAt self.new.file self.new.file.reading }
+        ensures stays { IsTrue (outlook self.old.file).is_over → (self.new.source ≡ self.old.source) × (self.new.file ≡ without_last self.old.file) }
+        ensures same_end { IsTrue (outlook self.old.file).is_over → IsSameEnd self.old.file.reading (next_in self.old.file self.new.file result.0) }
+        ensures cause { (outlook self.old.file).is_over ≡ false → result.0 ≡ Passed.ReadFault → Rose (S.faults self.old.source) (S.faults self.new.source) }
+        ensures later { S.faults self.old.source ≤ S.faults self.new.source }
+        ensures marked { S.mark self.new.source ≡ S.mark self.old.source }
+        ensures left { Loses (S.left self.old.source) (S.left self.new.source) }
+        ensures keeps { KeepsAll (S.left self.old.source) (S.left self.new.source) self.old.file self.new.file }
+        ensures tells { (outlook self.old.file).is_over ≡ false → Tells self.new.file (next_in self.old.file self.new.file result.0) }
+        ensures stops { (outlook self.old.file).is_over ≡ false → Stops (S.left self.new.source) self.new.file (next_in self.old.file self.new.file result.0) }
+        ensures high { self.new.file.byte_limit ≤ 2 ^ 40 }
+        ensures skipped { self.new.skipped ≡ self.old.skipped }
+    {
         self.file.forget();
         match self.file.ended() {
-            Some(end) => next_of(end),
-            None => self.read_on(),
+            Some(end) => (passed_of(end), None),
+            None => self.read_on(wanted),
         }
     }
 
     // The same where no end was answered.
-    fn read_on(&mut self) -> Next
+    fn read_on(&mut self, wanted: bool) -> (Passed, Option<Chunk>)
         requires going { IsGoing self.old.file.reading }
         requires fresh { self.old.file.last ≡ [] }
         ensures keeps { KeepsAll (S.left self.old.source) (S.left self.new.source) self.old.file self.new.file }
-        ensures tells { Tells self.new.file result }
-        ensures stops { Stops (S.left self.new.source) self.new.file result }
+        ensures tells { Tells self.new.file (next_in self.old.file self.new.file result.0) }
+        ensures stops { Stops (S.left self.new.source) self.new.file (next_in self.old.file self.new.file result.0) }
         ensures skipped { self.new.skipped ≡ self.old.skipped }
-        ensures answer { Answered file_kind (outlook self.old.file) (outlook self.new.file) (S.left self.old.source) (S.left self.new.source) (got result) }
-        ensures chunk { IsGiven self.old.file self.new.file result }
+        ensures answer { Answered file_kind (outlook self.old.file) (outlook self.new.file) (S.left self.old.source) (S.left self.new.source) (got (next_in self.old.file self.new.file result.0)) }
+        ensures chunk { IsGiven self.old.file self.new.file (next_in self.old.file self.new.file result.0) }
+        ensures value { IsTrue wanted → HasValue (next_in self.old.file self.new.file result.0) result.1 }
         ensures limit { self.new.file.byte_limit ≡ self.old.file.byte_limit }
         ensures stands { StandsAt self.new.file self.new.file.reading }
-        ensures cause { result ≡ Next.ReadFault → Rose (S.faults self.old.source) (S.faults self.new.source) }
+        ensures cause { result.0 ≡ Passed.ReadFault → Rose (S.faults self.old.source) (S.faults self.new.source) }
         ensures later { S.faults self.old.source ≤ S.faults self.new.source }
         ensures marked { S.mark self.new.source ≡ S.mark self.old.source }
     {
         'pieces: loop {
-            match self.file.step() {
-                Inner::Answer(next) => return next,
+            match self.file.step(wanted) {
+                Inner::Answer(passed, value) => return (passed, value),
                 Inner::Want => match self.file.take_piece(&mut self.source) {
-                    Ok(0) => return self.file.end_input(),
+                    Ok(0) => return (self.file.end_input(), None),
                     Ok(_) => {}
-                    Err(PieceFault::Memory) => return Next::Memory,
-                    Err(PieceFault::Failed) => return self.file.fail(),
+                    Err(PieceFault::Memory) => return (Passed::Memory, None),
+                    Err(PieceFault::Failed) => return (self.file.fail(), None),
                 },
             }
         }
@@ -191,7 +240,7 @@ impl<S: Source> FileReader<S> {
         rest
     }
 
-    /// The bytes of the chunk that the last call of `next` gave. There are none where it gave no chunk,
+    /// The bytes of the chunk that the last call of `next` or `pass` gave. There are none where it gave no chunk,
     /// or where there was no call.
     pub fn last_bytes(&self) -> &[u8]
         ensures { result.now ≡ self.now.file.last }

@@ -2,7 +2,7 @@ use Rattle.std.proofs.Common.{arith}
 use Rattle.chunk_grammar.specs.Chunk.{boundary_bytes}
 use Rattle.chunk_grammar.specs.Standing.{same_bytes}
 use Rattle.chunk_decoder.proofs.Bytes.{same_stays, same_ends}
-use Rattle.chunk_decoder.proofs.content.read_boundary_bytes.Goals as goal
+use Rattle.chunk_decoder.proofs.content.find_boundary_bytes.Goals as goal
 
 pub returns-then-bytes-i : goal.returns-then-bytes-i
 returns-then-bytes-i c =

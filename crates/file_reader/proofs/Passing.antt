@@ -1,6 +1,6 @@
 -- What a step does, told of the fields.
 use Rattle.std.proofs.Common.{◌≡◌, ℕ, zero, suc, ◌+◌, ◌-◌, ◌≤◌, List, [], ◌∷◌, length, take, drop, Option, Some, None, refl, sym, ap, ◌∙◌, subst, arith}
-use Rattle.std.proofs.lemmas.List.{length-take, length-drop}
+use Rattle.std.proofs.lemmas.List.{append-nil, length-take, length-drop}
 use Rattle.reading_model.specs.Outlook.{ended}
 use Rattle.reading_model.specs.Reading.{Reading, going}
 use Rattle.piece_reader.specs.Steps.{Passes, end_of}
@@ -11,9 +11,13 @@ use Rattle.file_model.specs.declared.end.FileEnd.{FileEnd}
 use Rattle.file_model.specs.declared.end.FileEnd.TheVariants.{Torn}
 use Rattle.file_model.specs.declared.next.Next.TheVariants.{Chunk}
 use Rattle.file_model.specs.Reader.{FileState, behind_chunk, by_standing, file_end, file_rules}
+use Rattle.chunk_laws.proofs.Places.{at_complete}
+use Rattle.file_model.specs.declared.next.Next.{Next}
+use Rattle.file_reader.specs.declared.passed.Passed.TheVariants as passed
 use Rattle.file_reader.specs.declared.kept.Inner.TheVariants.{Answer}
 use Rattle.file_reader.specs.FileInlet.{FileInlet}
-use Rattle.file_reader.specs.Kept.{Does, IsGoing, reading_of}
+use Rattle.file_reader.specs.AsNext.{HasValue, chunk_of, next_in}
+use Rattle.file_reader.specs.Kept.{Answers, Does, IsGoing, reading_of}
 
 abbrev pub seen : Option FileEnd → Context → ℕ → ℕ → List ℕ → ℕ → FileInlet
 seen ending context place last bytes limit = record {
@@ -63,17 +67,17 @@ passes_here context after place last used limit bytes rest c found left is =
           ∙ ap (λ (x : Context). goes_on (record { context = x; place = place + used }) (drop used (drop last bytes)) (limit - place - used)) is,
     )
 
-pub chunk_passed : (now : FileInlet) (ending : Option FileEnd) (context after : Context) (place last used limit : ℕ) (bytes rest counted : List ℕ) (c : ChunkValue) → seen ending context place last bytes limit ≡ now → IsGoing now.reading
+chunk_answered : (now : FileInlet) (ending : Option FileEnd) (context after : Context) (place last used limit : ℕ) (bytes rest counted : List ℕ) (c : ChunkValue) → seen ending context place last bytes limit ≡ now → IsGoing now.reading
     → place ≤ limit → counted ≡ take (limit - place) (drop last bytes) → standing_at context counted ≡ whole c used → (used ≤ length counted) × IsChunkText context c (take used counted) → rest ≡ drop last bytes
-    → after ≡ context_after context c → Does now (seen ending after (place + used) used rest limit) (Answer (Chunk place c))
-chunk_passed now (Some e) context after place last used limit bytes rest counted c v g low is found text left then = absurd (subst (λ (x : FileInlet). IsGoing x.reading) (sym v) g)
-chunk_passed now None context after place last used limit bytes rest counted c v g low is found text left then =
+    → after ≡ context_after context c → Answers now (seen ending after (place + used) used rest limit) (Chunk place c)
+chunk_answered now (Some e) context after place last used limit bytes rest counted c v g low is found text left then = absurd (subst (λ (x : FileInlet). IsGoing x.reading) (sym v) g)
+chunk_answered now None context after place last used limit bytes rest counted c v g low is found text left then =
     let new : FileInlet = seen None after (place + used) used rest limit in
     let long : length counted ≡ length (take (limit - place) (drop last bytes)) = ap length is in
     let in_room : used ≤ limit - place = omega (arith, text.0, long, length-take (limit - place) (drop last bytes)) in
     let in_rest : used ≤ length rest = omega (arith, text.0, long, ap length left, length-take (limit - place) (drop last bytes)) in
     let same : take used counted ≡ take used rest = ap (take used) is ∙ take_fewer used (limit - place) (drop last bytes) in_room ∙ ap (take used) (sym left) in
-    let here : Does (seen None context place last bytes limit) new (Answer (Chunk place c)) = (
+    let here : Answers (seen None context place last bytes limit) new (Chunk place c) = (
       passes_here context after place last used limit bytes rest c (ap (standing_at context) (sym is) ∙ found) left then,
       (
         refl,
@@ -84,7 +88,28 @@ chunk_passed now None context after place last used limit bytes rest counted c v
       ),
       refl,
     ) in
-    subst (λ (x : FileInlet). Does x new (Answer (Chunk place c))) v here
+    subst (λ (x : FileInlet). Answers x new (Chunk place c)) v here
+
+same_chunk : (context : Context) (c : ChunkValue) (text : List ℕ) → IsChunkText context c text → chunk_of (standing_at context text) ≡ c
+same_chunk context c text is = ap chunk_of (ap (standing_at context) (sym (append-nil text)) ∙ at_complete context c text [] is)
+
+pub record ChunkPassed (now new : FileInlet) (place : ℕ) (c : ChunkValue) : Type 0 where
+  pub does : (value : Option ChunkValue) → Does now new (Answer (passed.Chunk place) value)
+  pub values : (value : Option ChunkValue) → value ≡ Some c → HasValue (next_in now new (passed.Chunk place)) value
+
+chunk_so : (now new : FileInlet) (place : ℕ) (c : ChunkValue) → Answers now new (Chunk place c) → ChunkPassed now new place c
+chunk_so now new place c a =
+    let is : c ≡ chunk_of (standing_at now.context new.last) = sym (same_chunk now.context c new.last a.1.1) in
+    record {
+      does = λ value. subst (λ (d : ChunkValue). Answers now new (Chunk place d)) is a;
+      values = λ value e. e ∙ ap (λ (d : ChunkValue). Some d) is;
+    }
+
+pub chunk_passed : (now : FileInlet) (ending : Option FileEnd) (context after : Context) (place last used limit : ℕ) (bytes rest counted : List ℕ) (c : ChunkValue) → seen ending context place last bytes limit ≡ now → IsGoing now.reading
+    → place ≤ limit → counted ≡ take (limit - place) (drop last bytes) → standing_at context counted ≡ whole c used → (used ≤ length counted) × IsChunkText context c (take used counted) → rest ≡ drop last bytes
+    → after ≡ context_after context c → ChunkPassed now (seen ending after (place + used) used rest limit) place c
+chunk_passed now ending context after place last used limit bytes rest counted c v g low is found text left then =
+    chunk_so now (seen ending after (place + used) used rest limit) place c (chunk_answered now ending context after place last used limit bytes rest counted c v g low is found text left then)
 
 -- the same count of bytes that are held
 pub used_within : (limit place last used : ℕ) (bytes counted : List ℕ) → counted ≡ take (limit - place) (drop last bytes) → used ≤ length counted → (used ≤ limit - place) × (used ≤ length bytes - last)
