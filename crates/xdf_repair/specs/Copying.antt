@@ -20,20 +20,37 @@ turn_by ReadFault = Stop repaired.ReadFault
 turn_by SizeLimit = Stop repaired.SizeLimit
 turn_by Memory = Stop repaired.Memory
 
--- these bytes were taken: the text of whole chunks, which was written behind the magic, and what the reader holds behind them
-pub record IsCopied (before left held held' : Option (List ℕ)) (now : FileInlet) (chunks bytes : ℕ) : Type 0 where
+-- these bytes were taken: the text of whole chunks, and what the reader holds behind them
+pub record IsMet (before left : Option (List ℕ)) (now : FileInlet) (chunks bytes : ℕ) : Type 0 where
   pub taken : List ℕ
   pub lost : Consumes before left taken
   pub cs : List ChunkValue
   pub text : List ℕ
   pub texts : AreChunkTexts [] cs text
   pub whole : taken ≡ text ++ now.ahead
-  pub written : Appends held held' (magic ++ text)
   pub context : now.context ≡ context_after_all [] cs
   pub place : now.place ≡ 4 + length text
   pub chunk_count : chunks ≡ length cs
   pub byte_count : bytes ≡ now.place
   pub few : chunks ≤ now.place
+
+-- their text was written behind the magic, but for the bytes that wait
+pub record IsGathered (before left held held' : Option (List ℕ)) (now : FileInlet) (chunks bytes : ℕ) (waiting : List ℕ) : Type 0 where
+  pub met : IsMet before left now chunks bytes
+  pub went : List ℕ
+  pub all : magic ++ met.text ≡ went ++ waiting
+  pub written : Appends held held' went
+
+-- their text was written behind the magic
+pub record IsCopied (before left held held' : Option (List ℕ)) (now : FileInlet) (chunks bytes : ℕ) : Type 0 where
+  pub met : IsMet before left now chunks bytes
+  pub written : Appends held held' (magic ++ met.text)
+
+-- a front of these bytes was written, and the rest waits
+pub record Gathers (held held' : Option (List ℕ)) (bytes waiting : List ℕ) : Type 0 where
+  pub went : List ℕ
+  pub all : bytes ≡ went ++ waiting
+  pub written : Appends held held' went
 
 -- no whole chunk stands at the place, whatever follows; where the input has ended, nothing follows
 abbrev pub NoneStands : FileInlet → Type 0

@@ -8,9 +8,13 @@ ghost use Rattle.xdf_repair.specs.Copying.{IsCopied, NoneStands};
 
 use crate::repaired::Repaired;
 use crate::turn::{Turn, turn_by};
+use crate::waiting::{gather, put_behind};
 use chunk_encoder::write_all_of;
 use file_reader::FileReader;
-use rec_base::{Sink, Source};
+use rec_base::{Failed, Sink, Source};
+
+// How many bytes wait for one write at most.
+const ROOM: usize = 65_536;
 
 /// What was written: so many chunks, and so many bytes with the magic.
 #[derive(Clone, Copy)]
@@ -19,7 +23,8 @@ pub(crate) struct Copied {
     pub bytes: u64,
 }
 
-/// Writes the magic and the bytes of each whole chunk, up to the first place that holds none.
+/// Writes the magic and the bytes of each whole chunk, up to the first place that holds none. What waits
+/// is written at every end but that of a failed write.
 pub(crate) fn copy_chunks<S: Source, K: Sink>(
     reader: &mut FileReader<S>,
     sink: &mut K,
@@ -38,23 +43,33 @@ pub(crate) fn copy_chunks<S: Source, K: Sink>(
     ensures marked { S.mark reader.new.source ≡ S.mark reader.old.source }
     ensures rest { K.rest sink.new ≡ K.rest sink.old }
 {
-    if write_all_of(sink, b"XDF:").is_err() {
-        return Err(Repaired::WriteFault);
-    }
+    let mut room = [0; ROOM];
+    let mut waiting = put_behind(&mut room, 0, b"XDF:");
     let mut chunks: u64 = 0;
     let mut bytes: u64 = 4;
     'chunks: loop {
-        match turn_by(reader.next()) {
+        match turn_by(reader.pass()) {
             Turn::Copy => {
                 let text = reader.last_bytes();
-                if write_all_of(sink, text).is_err() {
-                    return Err(Repaired::WriteFault);
+                match gather(sink, &mut room, waiting, text) {
+                    Ok(count) => waiting = count,
+                    Err(Failed) => return Err(Repaired::WriteFault),
                 }
                 chunks += 1;
                 bytes += text.len() as u64;
             }
-            Turn::Skip => return Ok(Copied { chunks, bytes }),
-            Turn::Stop(fault) => return Err(fault),
+            Turn::Skip => {
+                if write_all_of(sink, &room[..waiting]).is_err() {
+                    return Err(Repaired::WriteFault);
+                }
+                return Ok(Copied { chunks, bytes });
+            }
+            Turn::Stop(fault) => {
+                if write_all_of(sink, &room[..waiting]).is_err() {
+                    return Err(Repaired::WriteFault);
+                }
+                return Err(fault);
+            }
         }
     }
 }

@@ -4,13 +4,15 @@
 //! stand there, up to the first place that holds none; then it reads the file to its end to count
 //! what it leaves out. The crate promises that the chunks it writes are those at the front of the
 //! file's bytes, that it writes no other byte, and that its three numbers are right. No chunk is
-//! encoded again: each byte goes from where the reader holds it into the sink.
+//! encoded again, and no value is made of one: the reader goes past it. A small chunk is copied once,
+//! to those that wait for one write; a large one goes from where the reader holds it into the sink.
 #![tactic(auto)]
 
 mod copied;
 mod front;
 mod repaired;
 mod turn;
+mod waiting;
 
 pub use front::repair_front;
 pub use repaired::Repaired;

@@ -1,10 +1,12 @@
 //! What to do by an answer of the reader.
 
-ghost use Rattle.std.specs.Prelude.{◌≡◌};
+ghost use Rattle.std.specs.Prelude.{◌≡◌, ℕ, List};
+ghost use Rattle.chunk_grammar.specs.Chunk.{Context};
+ghost use Rattle.file_reader.specs.AsNext.{as_next};
 ghost use Rattle.xdf_repair.specs.Copying.{turn_by};
 
 use crate::repaired::Repaired;
-use file_reader::Next;
+use file_reader::Passed;
 
 /// What to do next.
 pub(crate) enum Turn {
@@ -16,15 +18,15 @@ pub(crate) enum Turn {
     Stop(Repaired),
 }
 
-/// What to do by an answer, which is let go.
-pub(crate) fn turn_by(next: Next) -> Turn
-    ensures { result ≡ turn_by next }
+/// What to do by an answer.
+pub(crate) fn turn_by(passed: Passed) -> Turn
+    ensures { (context : Context) (text : List ℕ) → turn_by (as_next context text passed) ≡ result }
 {
-    match next {
-        Next::Chunk { .. } => Turn::Copy,
-        Next::End { .. } | Next::Torn { .. } | Next::Bad { .. } => Turn::Skip,
-        Next::ReadFault => Turn::Stop(Repaired::ReadFault),
-        Next::SizeLimit => Turn::Stop(Repaired::SizeLimit),
-        Next::Memory => Turn::Stop(Repaired::Memory),
+    match passed {
+        Passed::Chunk { .. } => Turn::Copy,
+        Passed::End { .. } | Passed::Torn { .. } | Passed::Bad { .. } => Turn::Skip,
+        Passed::ReadFault => Turn::Stop(Repaired::ReadFault),
+        Passed::SizeLimit => Turn::Stop(Repaired::SizeLimit),
+        Passed::Memory => Turn::Stop(Repaired::Memory),
     }
 }

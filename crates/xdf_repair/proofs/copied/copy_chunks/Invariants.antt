@@ -1,11 +1,12 @@
-use Rattle.std.proofs.Common.{◌≡◌, ◌≤◌, ◌-◌, false, None}
+use Rattle.std.proofs.Common.{◌≡◌, ◌≤◌, ◌-◌, false, None, length, take}
 use Rattle.file_reader.specs.FileInlet.{outlook}
-use Rattle.xdf_repair.specs.Copying.{IsCopied}
+use Rattle.xdf_repair.specs.Copying.{IsGathered}
 use Rattle.xdf_repair.proofs.copied.copy_chunks.Given as goal
 
 abbrev pub invariant-chunks : goal.invariant-chunks
 invariant-chunks g l = record {
-  copied : IsCopied (g.S.Source.left l.fn.reader.source) (g.S.Source.left l.reader.source) (g.K.Sink.held l.fn.sink) (g.K.Sink.held l.sink) l.reader.file l.chunks l.bytes;
+  gathered : IsGathered (g.S.Source.left l.fn.reader.source) (g.S.Source.left l.reader.source) (g.K.Sink.held l.fn.sink) (g.K.Sink.held l.sink) l.reader.file l.chunks l.bytes (take l.waiting l.room);
+  within : l.waiting ≤ length l.room;
   goes : (outlook l.reader.file).is_over ≡ false;
   limit : l.reader.file.byte_limit ≡ l.fn.reader.file.byte_limit;
   skipped : l.reader.skipped ≡ None;
