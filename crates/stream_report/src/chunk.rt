@@ -1,10 +1,11 @@
 //! The first line of a chunk.
 
-ghost use Rattle.std.specs.Prelude.{◌≡◌, IfOk, string_bytes};
+ghost use Rattle.std.specs.Prelude.{◌≡◌, ◌++◌, IfOk, OnOk, string_bytes};
 ghost use Rattle.chunk_grammar.specs.declared.chunk.Chunk.TheVariants.{StreamHeader, ClockOffset};
+ghost use Rattle.stream_report.specs.Words.{double_word};
 ghost use Rattle.stream_report.specs.Parts.{first_line};
 
-use crate::words::push_hex;
+use crate::line::Line;
 use chunk_grammar::Chunk;
 use rec_base::{Blob, Memory};
 use sample_values::format_name;
@@ -28,14 +29,24 @@ fn header_line(alloc: Global, at: u64, id: u32, doc: &Blob) -> Result<String, Me
     }
 }
 
+// Appends a blank and the sixteen digits of a time.
+fn push_time(line: &mut String, alloc: Global, time: u64) -> Result<(), Memory>
+    ensures { OnOk result (string_bytes line.new ≡ string_bytes line.old ++ double_word time) }
+{
+    let mut word = Line::new(alloc);
+    word.push_double(time)?;
+    line.push_str(word.text())?;
+    Ok(())
+}
+
 // The line of a clock offset, with the patterns of its two times.
 fn offset_line(alloc: Global, at: u64, id: u32, time: u64, offset: u64) -> Result<String, Memory>
     ensures { IfOk result (λ line. string_bytes line ≡ first_line at (ClockOffset id time offset)) }
 {
-    let mut line = format!(in alloc; "{at} clock-offset id {id} time ")?;
-    push_hex(&mut line, 16, time)?;
-    line.push_str(" offset ")?;
-    push_hex(&mut line, 16, offset)?;
+    let mut line = format!(in alloc; "{at} clock-offset id {id} time")?;
+    push_time(&mut line, alloc, time)?;
+    line.push_str(" offset")?;
+    push_time(&mut line, alloc, offset)?;
     Ok(line)
 }
 

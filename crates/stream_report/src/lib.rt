@@ -8,14 +8,17 @@
 //! Nothing is gathered: a line is made when its turn comes, and the lines of a chunk's samples are
 //! made in one buffer, so that the memory taken is that of two lines, however many samples there are.
 //! A sample's bytes are read once, where they lie in the chunk, and none is copied; what is written
-//! into the buffer is their words, which `say` then reads.
+//! into the buffer is their words, which `say` then reads. Words are written into places that are
+//! there before, and a line is in ASCII, so that it is a text without a look at its bytes.
 #![tactic(auto)]
 
 mod chunk;
 mod fault;
 mod file;
 mod line;
+mod places;
 mod reason;
+mod sample_line;
 mod say;
 mod words;
 

@@ -10,7 +10,8 @@ ghost use Rattle.stream_report.specs.Parts.{later_lines};
 
 use crate::chunk::chunk_line;
 use crate::fault::SayFault;
-use crate::line::put_sample_line;
+use crate::line::Line;
+use crate::sample_line::put_sample_line;
 use chunk_grammar::{Chunk, Context, SampleList};
 use rec_base::{Failed, Lines};
 use sample_values::{Format, SampleView};
@@ -34,7 +35,7 @@ pub(crate) fn say_line<L: Lines>(lines: &mut L, line: &str) -> Result<(), SayFau
 // Says the line of a sample, which is made in the buffer.
 fn say_sample<L: Lines>(
     lines: &mut L,
-    line: &mut String,
+    line: &mut Line,
     format: Format,
     sample: &SampleView<'_>,
 ) -> Result<(), SayFault>
@@ -47,7 +48,7 @@ fn say_sample<L: Lines>(
     ensures rest { L.rest lines.new ≡ L.rest lines.old }
 {
     put_sample_line(line, format, sample)?;
-    say_line(lines, line.as_str())
+    say_line(lines, line.text())
 }
 
 // Says a line for each sample. One buffer serves for all of them.
@@ -65,11 +66,10 @@ fn say_samples<L: Lines>(
     ensures later { L.print_faults lines.old ≤ L.print_faults lines.new }
     ensures rest { L.rest lines.new ≡ L.rest lines.old }
 {
-    let mut line = String::new(alloc);
-    for i in 0..samples.len() {
-        if let Some(sample) = samples.get(i) {
-            say_sample(lines, &mut line, format, &sample)?;
-        }
+    let mut line = Line::new(alloc);
+    let mut walk = samples.walk();
+    while let Some(sample) = walk.next() {
+        say_sample(lines, &mut line, format, &sample)?;
     }
     Ok(())
 }

@@ -1,64 +1,43 @@
-//! The words of a line: numbers, digits, texts and stamps.
+//! The words of a line: stamps and values.
 
-ghost use Rattle.std.specs.Prelude.{◌≡◌, ◌++◌, ◌∷◌, ◌<◌, ◌≤◌, ◌^◌, ◌-◌, ◌*◌, ℕ, OnOk, Some, slice_get, string_bytes};
+ghost use Rattle.std.specs.Prelude.{◌≡◌, ◌++◌, ◌∷◌, ◌<◌, ◌≤◌, OnOk};
 ghost use Rattle.std.specs.List.{flat_map};
-ghost use Rattle.xdf_model.specs.Sample.{Value};
-ghost use Rattle.report_model.specs.Lines.{hex_digit, hex_digits, number_word, signed_decimal, stamp_word, value_word};
+ghost use Rattle.sample_values.specs.View.{seen_value};
+ghost use Rattle.report_model.specs.Lines.{hex_digits, number_word, signed_decimal, stamp_word, value_word};
 
+use crate::line::Line;
 use rec_base::Memory;
-use sample_values::{Format, SampleView, Stamp};
+use sample_values::{Format, Stamp, ValueView};
 
-// A hexadecimal digit, in lower case.
-fn digit_char(digit: u8) -> char
-    requires { digit < 16 }
-    ensures value { result ≡ hex_digit digit }
-    ensures ascii { result < 128 }
-{
-    if digit < 10 {
-        (b'0' + digit) as char
-    } else {
-        (b'a' + (digit - 10)) as char
-    }
-}
-
-/// Appends a number in so many hexadecimal digits, the highest first.
-pub(crate) fn push_hex(line: &mut String, count: u8, number: u64) -> Result<(), Memory>
-    requires { count ≤ 16 }
-    ensures { OnOk result (string_bytes line.new ≡ string_bytes line.old ++ hex_digits count number) }
-{
-    for i in 0..count {
-        let digit = (number >> (4 * (count - 1 - i))) % 16;
-        line.push(digit_char(digit as u8))?;
-    }
-    Ok(())
-}
-
-// Appends the number that a two's complement pattern of so many bytes stands for. The patterns from
-// `half` on are those of the negative numbers.
-fn push_signed(line: &mut String, size: u8, pattern: u64) -> Result<(), Memory>
+// Appends the number that a two's complement pattern of so many bytes stands for, behind a blank. The
+// patterns from `half` on are those of the negative numbers.
+#[inline]
+fn push_signed(line: &mut Line, size: u8, pattern: u64) -> Result<(), Memory>
     requires some { 0 < size }
     requires few { size ≤ 8 }
-    ensures { OnOk result (string_bytes line.new ≡ string_bytes line.old ++ signed_decimal size pattern) }
+    ensures { OnOk result (line.new ≡ line.old ++ 32 ∷ signed_decimal size pattern) }
 {
     let half = 1u64 << (8 * size - 1);
     if pattern < half {
-        write!(line, "{pattern}")?;
+        line.push_ascii(b" ")?;
+        line.push_decimal(pattern)
     } else {
+        line.push_ascii(b" -")?;
         // How far the number is below 0; nothing for a pattern of more bytes.
-        let below = half.saturating_sub(pattern - half);
-        write!(line, "-{below}")?;
+        line.push_decimal(half.saturating_sub(pattern - half))
     }
-    Ok(())
 }
 
-// Appends a number of a format, given by its pattern. As a text it has no word.
-fn push_number(line: &mut String, format: Format, bits: u64) -> Result<(), Memory>
-    ensures { OnOk result (string_bytes line.new ≡ string_bytes line.old ++ number_word format bits) }
+// Appends a number of a format behind a blank, given by its pattern. As a text it has no word.
+#[inline]
+#[tactic(auto, unfolding(crate::specs::Words::double_word))]
+fn push_number(line: &mut Line, format: Format, bits: u64) -> Result<(), Memory>
+    ensures { OnOk result (line.new ≡ line.old ++ 32 ∷ number_word format bits) }
 {
     match format {
-        Format::Float32 => push_hex(line, 8, bits),
-        Format::Double64 => push_hex(line, 16, bits),
-        Format::Text => Ok(()),
+        Format::Float32 => line.push_float(bits),
+        Format::Double64 => line.push_double(bits),
+        Format::Text => line.push_ascii(b" "),
         Format::Int32 => push_signed(line, 4, bits),
         Format::Int16 => push_signed(line, 2, bits),
         Format::Int8 => push_signed(line, 1, bits),
@@ -66,45 +45,42 @@ fn push_number(line: &mut String, format: Format, bits: u64) -> Result<(), Memor
     }
 }
 
-// Appends an `x` and two digits for each byte of a text.
-fn push_text(line: &mut String, text: &[u8]) -> Result<(), Memory>
-    ensures { OnOk result (string_bytes line.new ≡ string_bytes line.old ++ 120 ∷ flat_map (hex_digits 2) text.now) }
+// Appends an `x` and two digits for each byte of a text, behind a blank.
+#[inline]
+fn push_text(line: &mut Line, text: &[u8]) -> Result<(), Memory>
+    ensures { OnOk result (line.new ≡ line.old ++ 32 ∷ 120 ∷ flat_map (hex_digits 2) text.now) }
 {
-    line.push('x')?;
-    for byte in text {
-        push_hex(line, 2, *byte as u64)?;
-    }
-    Ok(())
+    line.push_ascii(b" x")?;
+    line.push_bytes(text)
 }
 
-/// Appends the value of a channel, counted from 0. Where the sample has none, it appends nothing.
+/// Appends a value behind a blank, as a value of this format.
+#[inline]
 pub(crate) fn push_value(
-    line: &mut String,
+    line: &mut Line,
     format: Format,
-    sample: &SampleView<'_>,
-    i: usize,
+    value: ValueView<'_>,
 ) -> Result<(), Memory>
-    ensures { (v : Value) → slice_get sample.now.values i ≡ Some v
-        → OnOk result (string_bytes line.new ≡ string_bytes line.old ++ value_word format v) }
+    ensures { OnOk result (line.new ≡ line.old ++ 32 ∷ value_word format (seen_value value.entry)) }
 {
-    if let Some(bits) = sample.bits_at(i) {
-        return push_number(line, format, bits);
-    }
-    match sample.text_at(i) {
-        Some(text) => push_text(line, text),
-        None => Ok(()),
+    match value {
+        ValueView::Number(bits) => push_number(line, format, bits),
+        ValueView::Text(text) => push_text(line, text),
     }
 }
 
-/// Appends a time stamp: the digits of its pattern, or `none`.
-pub(crate) fn push_stamp(line: &mut String, stamp: Stamp) -> Result<(), Memory>
-    ensures { OnOk result (string_bytes line.new ≡ string_bytes line.old ++ stamp_word stamp) }
+/// Begins the line of a sample: two blanks, and the digits of its stamp, or `none`.
+#[inline]
+#[tactic(auto, unfolding(crate::specs::Words::double_word))]
+pub(crate) fn begin_line(line: &mut Line, stamp: Stamp) -> Result<(), Memory>
+    ensures { OnOk result (line.new ≡ 32 ∷ 32 ∷ stamp_word stamp) }
 {
+    line.clear();
     match stamp {
-        Stamp::None => {
-            line.push_str("none")?;
-            Ok(())
+        Stamp::None => line.push_ascii(b"  none"),
+        Stamp::Bits(bits) => {
+            line.push_ascii(b" ")?;
+            line.push_double(bits)
         }
-        Stamp::Bits(bits) => push_hex(line, 16, bits),
     }
 }

@@ -1,27 +1,31 @@
-use Rattle.std.proofs.Common.{rules, Err, ap, sym, ◌∙◌, arith}
+use Rattle.std.proofs.Common.{rules, ℕ, List, take, map, Option, Err, ap, sym, ◌∙◌, subst}
+use Rattle.std.specs.Io.KnownBytes.{Appends}
 use Rattle.std.proofs.lemmas.Result.{err_from_is_err_and}
 use Rattle.report_model.specs.Lines.{sample_line}
+use Rattle.report_model.specs.Shown.{printed_lines}
 use Rattle.stream_report.specs.declared.fault.SayFault.{SayFault}
-use Rattle.stream_report.proofs.Items.{no_more}
-use Rattle.stream_report.proofs.Said.{said_item, front_item, rose_later}
+use Rattle.stream_report.proofs.Said.{rose_later}
+use Rattle.stream_report.proofs.Walked.{one_said, front_said_of, some_said}
 use Rattle.stream_report.proofs.say.say_samples.Goals as goal
-use Rattle.stream_report.proofs.say.say_samples.Goals.{in-Some+in_ok-say_sample, in_default}
+
+pub loop-sample-preserved : goal.loop-sample-preserved
+loop-sample-preserved g c = record {
+  said = one_said (sample_line c.args.format) _ _ _ c.args.samples.now _ _ c.in-Some.sample c.loop-sample.invariant.said c.in-Some.ensures.gives c.in_ok-say_sample.ensures.said;
+  later = search rules;
+  rest = search rules;
+}
 
 pub returns-in_err-say_sample-clause-print : goal.returns-in_err-say_sample-clause-print
 returns-in_err-say_sample-clause-print g c = λ is.
     let exit = err_from_is_err_and c.from_residual.result c.from_residual.ensures.1 in
     let said = c.in_err-say_sample.ensures.print (ap (λ (e : SayFault). Err e) (sym exit.2) ∙ sym exit.1 ∙ is) in (
-      front_item (sample_line c.args.format) _ _ _ c.args.samples.now c.loop-i.i c.in-Some.sample (sym c.get.ensures ∙ c.in-Some.is) c.loop-i.invariant.said said.0,
-      rose_later _ _ _ c.loop-i.invariant.later said.1,
+      front_said_of (sample_line c.args.format) _ _ _ c.args.samples.now _ _ c.in-Some.sample c.loop-sample.invariant.said c.in-Some.ensures.gives said.0,
+      rose_later _ _ _ c.loop-sample.invariant.later said.1,
     )
 
-pub loop-i-preserved : goal.loop-i-preserved
-loop-i-preserved g c =
-    elim c.match-get.branch [
-      | in-Some+in_ok-say_sample w ↦ record {
-        said = rw w.lines-is (said_item (sample_line c.args.format) _ _ _ c.args.samples.now c.loop-i.i w.in-Some.sample (sym c.get.ensures ∙ w.in-Some.is) c.loop-i.invariant.said w.in_ok-say_sample.ensures.said);
-        later = search rules;
-        rest = search rules;
-      }
-      | in_default w ↦ absurd (no_more c.args.samples.now c.loop-i.i (sym c.get.ensures ∙ w.in_default.is) (omega arith))
-    ]
+pub returns-in_err-say_sample-clause-memory : goal.returns-in_err-say_sample-clause-memory
+returns-in_err-say_sample-clause-memory g c = λ is.
+    let exit = err_from_is_err_and c.from_residual.result c.from_residual.ensures.1 in
+    let same = c.in_err-say_sample.ensures.memory (ap (λ (e : SayFault). Err e) (sym exit.2) ∙ sym exit.1 ∙ is) in
+    let P : Option (List ℕ) → Type 0 = λ b. (n : ℕ) × Appends (g.L.Lines.printed c.args.lines.now) b (printed_lines (take n (map (sample_line c.args.format) c.args.samples.now))) in
+    subst P (sym same) (some_said (sample_line c.args.format) _ _ c.args.samples.now c.loop-sample.walk c.loop-sample.invariant.said)

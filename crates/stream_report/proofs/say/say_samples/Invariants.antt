@@ -1,12 +1,14 @@
-use Rattle.std.proofs.Common.{◌≡◌, ◌≤◌, take, map}
-use Rattle.std.specs.Io.KnownBytes.{Appends}
+use Rattle.std.proofs.Common.{◌≡◌, ◌≤◌, length}
 use Rattle.report_model.specs.Lines.{sample_line}
-use Rattle.report_model.specs.Shown.{printed_lines}
+use Rattle.stream_report.proofs.Walked.{IsSaid}
 use Rattle.stream_report.proofs.say.say_samples.Given as goal
 
-abbrev pub invariant-loop-i : goal.invariant-loop-i
-invariant-loop-i g l = record {
-  said : Appends (g.L.Lines.printed l.initial.lines) (g.L.Lines.printed l.lines) (printed_lines (take l.i (map (sample_line l.format) l.samples)));
+abbrev pub invariant-loop-sample : goal.invariant-loop-sample
+invariant-loop-sample g l = record {
+  said : IsSaid (sample_line l.format) (g.L.Lines.printed l.initial.lines) (g.L.Lines.printed l.lines) l.walk l.samples;
   later : g.L.Lines.print_faults l.initial.lines ≤ g.L.Lines.print_faults l.lines;
   rest : g.L.Lines.rest l.lines ≡ g.L.Lines.rest l.initial.lines;
 }
+
+abbrev pub decreases-loop-sample : goal.decreases-loop-sample
+decreases-loop-sample g l = length l.walk
