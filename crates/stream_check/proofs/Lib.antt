@@ -1,10 +1,10 @@
 pub mod Bools
 pub mod Walks
-pub mod RowsTaken
 pub mod Grown
 pub mod RowsKept
 pub mod Knowing
 pub mod KnowingMore
+pub mod Texts
 pub mod Telling
 pub mod SoFar
 pub mod Checking

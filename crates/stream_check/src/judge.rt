@@ -1,34 +1,24 @@
 //! What is to be noted of a chunk by itself.
 
-ghost use Rattle.std.specs.Prelude.{◌≡◌, Some, slice_get, is_some};
+ghost use Rattle.std.specs.Prelude.{◌≡◌};
 ghost use Rattle.std.specs.List.{list_any};
 ghost use Rattle.std.specs.Str.{is_utf8};
-ghost use Rattle.xdf_model.specs.Shape.{behind_first};
-ghost use Rattle.xdf_model.specs.Sample.{Value, Sample};
+ghost use Rattle.sample_values.specs.View.{seen_value};
 ghost use Rattle.report_model.specs.Notes as notes;
 
 use chunk_grammar::{Chunk, SampleList};
-use sample_values::SampleView;
+use sample_values::{SampleView, ValueView};
+use shape_pattern::behind;
 
 // The version that is known (XDF 1.0, "FileHeader chunk").
 const VERSION: &[u8] = b"<version>1.0</version>";
 
-// Whether a pattern stands in a document.
-fn holds(pattern: &[u8], doc: &[u8]) -> bool
-    ensures { result ≡ is_some (behind_first pattern.now doc.now) }
-{
-    for i in 0..doc.len() {
-        if doc[i..].starts_with(pattern) {
-            return true;
-        }
-    }
-    false
-}
-
+// Most texts are ASCII, which is told at less cost than by blocks of 64 bytes, into which a short text
+// is copied.
 fn is_text(bytes: &[u8]) -> bool
     ensures { result ≡ is_utf8 bytes.now }
 {
-    simdutf8::is_utf8(bytes)
+    bytes.is_ascii() || simdutf8::is_utf8(bytes)
 }
 
 /// Whether it is the chunk that begins a file.
@@ -43,7 +33,7 @@ pub(crate) fn is_unversioned(chunk: &Chunk) -> bool
     ensures { result ≡ notes.is_unversioned chunk.now }
 {
     match chunk {
-        Chunk::FileHeader { doc } => !holds(VERSION, doc.bytes()),
+        Chunk::FileHeader { doc } => behind(VERSION, doc.bytes()).is_none(),
         _ => false,
     }
 }
@@ -60,13 +50,13 @@ pub(crate) fn has_broken_document(chunk: &Chunk) -> bool
     }
 }
 
-// Whether the value of a channel is a text that isn't UTF-8.
-fn is_broken_at(sample: &SampleView<'_>, i: usize) -> bool
-    ensures { (v : Value) → slice_get sample.now.values i ≡ Some v → result ≡ notes.is_broken v }
+// Whether a value is a text that isn't UTF-8.
+fn is_broken_value(value: ValueView<'_>) -> bool
+    ensures { result ≡ notes.is_broken (seen_value value.entry) }
 {
-    match sample.text_at(i) {
-        Some(text) => !is_text(text),
-        None => false,
+    match value {
+        ValueView::Number(_) => false,
+        ValueView::Text(text) => !is_text(text),
     }
 }
 
@@ -74,29 +64,25 @@ fn is_broken_at(sample: &SampleView<'_>, i: usize) -> bool
 fn is_broken(sample: &SampleView<'_>) -> bool
     ensures { result ≡ list_any notes.is_broken sample.now.values }
 {
-    for i in 0..sample.len() {
-        if is_broken_at(sample, i) {
+    let mut rest = sample.values();
+    while let Some(value) = rest.next() {
+        if is_broken_value(value) {
             return true;
         }
     }
     false
 }
 
-// The same of the sample at a place.
-fn is_broken_sample(samples: &SampleList, i: usize) -> bool
-    ensures { (s : Sample) → slice_get samples.now i ≡ Some s → result ≡ list_any notes.is_broken s.values }
-{
-    match samples.get(i) {
-        Some(sample) => is_broken(&sample),
-        None => false,
-    }
-}
-
+// Whether one of the samples has a text that isn't UTF-8. Numbers are passed by at once.
 fn has_broken_sample(samples: &SampleList) -> bool
     ensures { result ≡ list_any (λ s. list_any notes.is_broken s.values) samples.now }
 {
-    for i in 0..samples.len() {
-        if is_broken_sample(samples, i) {
+    if !samples.has_texts() {
+        return false;
+    }
+    let mut rest = samples.walk();
+    while let Some(sample) = rest.next() {
+        if is_broken(&sample) {
             return true;
         }
     }

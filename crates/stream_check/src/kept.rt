@@ -1,14 +1,12 @@
 //! What is kept of each stream while a file is read.
 
-ghost use Rattle.std.specs.Prelude.{◌≡◌, ◌&&◌, ◌==◌, Some, map, slice_get, is_some, IsTrue};
+ghost use Rattle.std.specs.Prelude.{◌≡◌, ◌&&◌, ◌==◌, map, is_some, IsTrue};
 ghost use Rattle.std.specs.List.{list_any};
-ghost use Rattle.xdf_model.specs.Sample.{Sample as SampleValue};
 ghost use Rattle.recording_model.specs.Ledger.{is_in_range, row_in};
 ghost use Rattle.stream_check.specs.Kept.{begun_at, closed, counted, kept_row, kept_rows, bad_rows, rowed, taken_row, takes};
 
-use crate::row::row_of;
 use chunk_grammar::SampleList;
-use overrun_ledger::Row;
+use overrun_ledger::{Row, read_row_view};
 use sample_values::SampleView;
 
 /// A stream's first footer: its place, and the numbers that it tells.
@@ -125,19 +123,8 @@ fn take_sample(streams: &mut [Kept], sample: &SampleView<'_>) -> bool
     ensures taken { result ≡ taken_row (row_in sample.now) streams.old }
     ensures kept { streams.new ≡ kept_row (row_in sample.now) streams.old }
 {
-    match row_of(sample) {
+    match read_row_view(sample) {
         Some(row) => take_row(streams, &row),
-        None => false,
-    }
-}
-
-// The same of the sample at a place.
-fn take_at(streams: &mut [Kept], samples: &SampleList, i: usize) -> bool
-    ensures taken { (s : SampleValue) → slice_get samples.now i ≡ Some s → result ≡ taken_row (row_in s) streams.old }
-    ensures kept { (s : SampleValue) → slice_get samples.now i ≡ Some s → streams.new ≡ kept_row (row_in s) streams.old }
-{
-    match samples.get(i) {
-        Some(sample) => take_sample(streams, &sample),
         None => false,
     }
 }
@@ -148,8 +135,9 @@ pub(crate) fn take_rows(streams: &mut [Kept], samples: &SampleList) -> bool
     ensures kept { streams.new ≡ kept_rows samples.now streams.old }
 {
     let mut bad = false;
-    for i in 0..samples.len() {
-        bad |= !take_at(streams, samples, i);
+    let mut rest = samples.walk();
+    while let Some(sample) = rest.next() {
+        bad |= !take_sample(streams, &sample);
     }
     bad
 }

@@ -16,7 +16,6 @@ mod judge;
 mod kept;
 mod last;
 mod next;
-mod row;
 mod say;
 mod survey;
 mod table;

@@ -1,9 +1,12 @@
-use Rattle.std.proofs.Common.{◌≡◌, ◌||◌, drop}
+use Rattle.std.proofs.Common.{◌≡◌, ◌||◌, length}
 use Rattle.stream_check.specs.Kept.{kept_rows, bad_rows}
 use Rattle.stream_check.proofs.kept.take_rows.Given as goal
 
-abbrev pub invariant-loop-i : goal.invariant-loop-i
-invariant-loop-i l = record {
-  kept : kept_rows (drop l.i l.samples) l.streams ≡ kept_rows l.samples l.fn.streams;
-  bad : (l.bad || bad_rows (drop l.i l.samples) l.streams) ≡ bad_rows l.samples l.fn.streams;
+abbrev pub invariant-loop-sample : goal.invariant-loop-sample
+invariant-loop-sample l = record {
+  kept : kept_rows l.rest l.streams ≡ kept_rows l.fn.samples l.fn.streams;
+  bad : (l.bad || bad_rows l.rest l.streams) ≡ bad_rows l.fn.samples l.fn.streams;
 }
+
+abbrev pub decreases-loop-sample : goal.decreases-loop-sample
+decreases-loop-sample l = length l.rest
