@@ -4,6 +4,8 @@ use Rattle.xdf_model.specs.Sample.{Value, number, text, Sample}
 use Rattle.sample_values.specs.declared.sample.Held.{Held}
 use Rattle.sample_values.specs.declared.sample.Held.TheVariants.{Number, Text}
 use Rattle.sample_values.specs.declared.sample.Sample.TheInside.{Inside}
+use Rattle.sample_values.specs.declared.sample.Values.{Values}
+use Rattle.sample_values.specs.declared.sample.Values.TheVariants.{Listed, Texts}
 use Rattle.sample_values.specs.declared.value.ValueView.{ValueView}
 use Rattle.sample_values.specs.declared.value.ValueView.TheVariants as view
 
@@ -11,8 +13,12 @@ abbrev pub value_of : Held → Value
 value_of (Number n) = number n
 value_of (Text t) = text t.items
 
+abbrev pub values_in : Values → List Value
+values_in (Listed list) = map value_of list.items
+values_in (Texts texts) = texts
+
 abbrev pub view_of : Inside → Sample
-view_of s = record { stamp = s.stamp; values = map value_of s.values.items }
+view_of s = record { stamp = s.stamp; values = values_in s.values }
 
 -- a value that is seen where it stands
 abbrev pub seen_value : ValueView → Value

@@ -44,7 +44,7 @@ fn values_fit(size: u8, largest: u64, values: ValueWalk<'_>) -> bool
     true
 }
 
-fn stamp_fits(stamp: Stamp) -> bool
+pub(crate) fn stamp_fits(stamp: Stamp) -> bool
     ensures always { IsTrue result }
     ensures fits { FitsStamp stamp }
 {
@@ -77,7 +77,7 @@ fn each_fits(shape: &Shape, view: &SampleView<'_>) -> bool
 }
 
 /// Whether a borrowed sample is one of this shape, as [`sample_fits`] tells. Of one that stands as
-/// bytes of this very shape no value is looked at.
+/// bytes of this very shape, or is a sample of so many texts alone, no value is looked at.
 pub fn view_fits(shape: &Shape, view: &SampleView<'_>) -> bool
     ensures { IsTrue result ↔ FitsShape shape.now view.now }
 {

@@ -5,7 +5,8 @@
 //! the text is the least one of the definition, and that want of memory leaves the output as it was.
 //!
 //! On the way a sample's byte is copied twice: once as it comes in (a number as its pattern of bits,
-//! a text by `push_text`), and once as it goes into `out`.
+//! a text by `push_text`), and once as it goes into `out`. Texts alone stand in one vector as they
+//! stand in a file, so that they go out in one piece, and `Sample::reset` keeps that vector.
 //!
 //! Samples of a file need no copy to be looked at. `walk_samples` goes past them where they lie, or
 //! says which byte is wrong. `RawSamples` keeps them as these bytes, which are copied once, and
@@ -23,6 +24,7 @@ mod raw_view;
 mod reverse;
 mod sample;
 mod size;
+mod texts;
 mod value;
 mod view;
 mod walk;

@@ -5,12 +5,13 @@ ghost use Rattle.sample_values.specs.View.{seen_value, KeepsFront};
 
 use crate::sample::Sample;
 use crate::size::size_of_format;
+use crate::texts::append_text;
 use crate::value::{ValueView, ValueWalk};
 use crate::view::SampleView;
 use byteorder::{ByteOrder, LittleEndian};
 use rec_base::Memory;
 use std::alloc::AllocError;
-use xdf_lengths::{put_fixed, put_num};
+use xdf_lengths::put_fixed;
 use xdf_model::{Shape, Stamp};
 
 fn put_stamp(stamp: Stamp, out: &mut Vec<u8>) -> Result<(), AllocError>
@@ -36,10 +37,7 @@ fn put_value(size: u8, value: ValueView<'_>, out: &mut Vec<u8>) -> Result<(), Al
 {
     match value {
         ValueView::Number(n) => put_fixed(size, n, out)?,
-        ValueView::Text(t) => {
-            put_num(t.len() as u64, out)?;
-            out.extend_from_slice(t)?;
-        }
+        ValueView::Text(bytes) => append_text(bytes, out)?,
     }
     Ok(())
 }
@@ -57,13 +55,29 @@ fn put_values(size: u8, values: ValueWalk<'_>, out: &mut Vec<u8>) -> Result<(), 
     Ok(())
 }
 
+// The same of all values of a sample, where texts that are kept as they stand in a file are copied.
+fn put_all(size: u8, view: &SampleView<'_>, out: &mut Vec<u8>) -> Result<(), AllocError>
+    requires size { size ≤ 8 }
+    requires fits { AllByRecursion (FitsValue size) view.now.values }
+    ensures ok { OnOk result (out.new.items ≡ out.old.items ++ flat_map (least_value_text size) view.now.values) }
+    ensures kept { OnErr result (KeepsFront out.old.items out.new.items) }
+{
+    if size == 0 {
+        if let Some(bytes) = view.least_texts() {
+            out.extend_from_slice(bytes)?;
+            return Ok(());
+        }
+    }
+    put_values(size, view.values(), out)
+}
+
 fn put_each(shape: &Shape, view: &SampleView<'_>, out: &mut Vec<u8>) -> Result<(), AllocError>
     requires { FitsShape shape.now view.now }
     ensures ok { OnOk result (out.new.items ≡ out.old.items ++ least_sample_text shape.now view.now) }
     ensures kept { OnErr result (KeepsFront out.old.items out.new.items) }
 {
     put_stamp(view.stamp(), out)?;
-    put_values(size_of_format(shape.format), view.values(), out)
+    put_all(size_of_format(shape.format), view, out)
 }
 
 // The same, where a sample of numbers that stands as bytes of this very shape is copied as it lies.

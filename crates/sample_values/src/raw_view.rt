@@ -103,11 +103,11 @@ fn values_among<'a>(shape: &Shape, bytes: &'a [u8]) -> ValueWalk<'a>
     ensures { result ≡ (found_in (sample_at shape.now bytes.now)).values }
 {
     let (_, values) = parts_of(shape, bytes);
-    ValueWalk::raw(shape.format, shape.count, values)
+    ValueWalk::raw(shape.format, shape.count as usize, values)
 }
 
 // The text at a place of some values, where a text stands there.
-fn text_among(values: ValueWalk<'_>, i: usize) -> Option<&[u8]>
+pub(crate) fn text_among(values: ValueWalk<'_>, i: usize) -> Option<&[u8]>
     ensures { option_copied result ≡ text_in (slice_get values.entry i) }
 {
     let mut rest = values;

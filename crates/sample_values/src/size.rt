@@ -67,13 +67,17 @@ fn values_size(size: u8, view: &SampleView<'_>) -> u64
     ensures { result ≡ length (flat_map (least_value_text size) view.now.values) }
 {
     if size == 0 {
-        texts_size(view.values())
+        match view.least_texts() {
+            Some(bytes) => bytes.len() as u64,
+            None => texts_size(view.values()),
+        }
     } else {
         view.len() as u64 * size as u64
     }
 }
 
-/// How many bytes [`put_sample`](crate::put_sample) appends: with numbers without a look at each.
+/// How many bytes [`put_sample`](crate::put_sample) appends: without a look at each value
+/// where all are numbers, or texts that were pushed.
 pub fn sample_size(shape: &Shape, sample: &Sample) -> u64
     requires fits { FitsShape shape.now sample.now }
     requires room { length (least_sample_text shape.now sample.now) < 2 ^ 64 }

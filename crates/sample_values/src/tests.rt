@@ -96,6 +96,52 @@ fn a_text_stands_behind_its_length(rt: HostRuntime) -> Result<(), Fail> {
 }
 
 #[test]
+fn a_sample_is_used_again(rt: HostRuntime) -> Result<(), Fail> {
+    let mut sample = Sample::new(rt.alloc(), Stamp::Bits(ONE_SECOND));
+    sample.push_text(rt.alloc(), b"hi")?;
+    sample.push_text(rt.alloc(), b"")?;
+    assert_eq!(rt; sample.text_at(1), Some(b"".as_slice()));
+    let shape = |count| Shape {
+        count,
+        format: Format::Text,
+    };
+    let mut out = Vec::new(rt.alloc());
+    assert!(rt; sample_fits(&shape(2), &sample));
+    assert!(rt; !sample_fits(&shape(1), &sample));
+    put_sample(&shape(2), &sample, &mut out)?;
+    let want = [8, 0, 0, 0, 0, 0, 0, 0xF0, 0x3F, 1, 2, b'h', b'i', 1, 0];
+    assert_eq!(rt; out.as_slice(), want.as_slice());
+    sample.reset(Stamp::None);
+    assert_eq!(rt; (sample.stamp(), sample.len()), (Stamp::None, 0));
+    sample.push_text(rt.alloc(), &[b'x'; 256])?;
+    out.clear();
+    put_sample(&shape(1), &sample, &mut out)?;
+    assert!(rt; out.starts_with([0, 4, 0, 1, 0, 0, b'x'].as_slice()));
+    assert_eq!(rt; out.len(), 262);
+    Ok(())
+}
+
+#[test]
+fn texts_and_numbers_stand_in_their_order(rt: HostRuntime) -> Result<(), Fail> {
+    let mut sample = Sample::new(rt.alloc(), Stamp::None);
+    sample.push_text(rt.alloc(), b"hi")?;
+    sample.push_bits(7)?;
+    sample.push_text(rt.alloc(), b"j")?;
+    assert_eq!(rt;
+        (sample.text_at(0), sample.bits_at(0)),
+        (Some(b"hi".as_slice()), None)
+    );
+    assert_eq!(rt; (sample.text_at(1), sample.bits_at(1)), (None, Some(7)));
+    assert_eq!(rt;
+        (sample.text_at(2), sample.len()),
+        (Some(b"j".as_slice()), 3)
+    );
+    let format = Format::Text;
+    assert!(rt; !sample_fits(&Shape { count: 3, format }, &sample));
+    Ok(())
+}
+
+#[test]
 fn a_sample_fits_by_its_count_and_each_value(rt: HostRuntime) -> Result<(), Fail> {
     let mut sample = numbers(rt.alloc(), Stamp::None, 0, 256)?;
     assert_eq!(rt; (sample.stamp(), sample.len()), (Stamp::None, 2));

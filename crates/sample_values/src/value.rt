@@ -24,7 +24,7 @@ pub enum ValueView<'a> {
 #[derive(Debug, Drop)]
 struct RawValues<'a> {
     format: Format,
-    left: u16,
+    left: usize,
     rest: &'a [u8],
 }
 
@@ -120,7 +120,7 @@ impl<'a> ValueWalk<'a> {
     }
 
     // So many values of a format, which take all the bytes.
-    pub(crate) fn raw(format: Format, count: u16, bytes: &'a [u8]) -> ValueWalk<'a>
+    pub(crate) fn raw(format: Format, count: usize, bytes: &'a [u8]) -> ValueWalk<'a>
         requires { IsAll (many_at (value_at (size_of format)) count bytes.now) }
         ensures { result ≡ listed (many_at (value_at (size_of format)) count bytes.now) }
     {

@@ -1,6 +1,7 @@
 ghost use Rattle.std.specs.Prelude.{◌≡◌, IfSome, IsTrue, length, slice_get};
+ghost use Rattle.std.specs.List.{flat_map};
 ghost use Rattle.std.specs.Option.{option_copied};
-ghost use Rattle.xdf_model.specs.Sample.{FitsShape, least_sample_text};
+ghost use Rattle.xdf_model.specs.Sample.{FitsShape, least_sample_text, least_value_text};
 ghost use Rattle.sample_values.specs.View.{bits_in, text_in};
 
 use crate::raw_view::RawView;
@@ -79,8 +80,8 @@ impl<'a> SampleView<'a> {
         }
     }
 
-    /// The bytes of the text of a channel, counted from 0, where a text stands there. Among texts that
-    /// stand as bytes it goes past those before, so for all of them [`values`](SampleView::values) is
+    /// The bytes of the text of a channel, counted from 0, where a text stands there. Among texts alone
+    /// it goes past those before, so for all of them [`values`](SampleView::values) is
     /// the way.
     pub fn text_at(&self, i: usize) -> Option<&[u8]>
         ensures { option_copied result ≡ text_in (slice_get self.now.values i) }
@@ -101,13 +102,23 @@ impl<'a> SampleView<'a> {
         }
     }
 
-    // Whether it stands as bytes of this very shape.
+    // Whether it stands as bytes of this very shape, or is kept as so many texts.
     pub(crate) fn has_shape(&self, shape: &Shape) -> bool
         ensures { IsTrue result → FitsShape shape.now self.now }
     {
         match &self.kind {
-            Kind::Kept(_) => false,
+            Kind::Kept(sample) => sample.has_shape(shape),
             Kind::Raw(view) => view.has_shape(shape),
+        }
+    }
+
+    // The texts with the least widths, where they stand as such and no number is among them.
+    pub(crate) fn least_texts(&self) -> Option<&'a [u8]>
+        ensures { IfSome result (λ bytes. bytes.now ≡ flat_map (least_value_text 0) self.now.values) }
+    {
+        match &self.kind {
+            Kind::Kept(sample) => sample.least_texts(),
+            Kind::Raw(_) => None,
         }
     }
 
