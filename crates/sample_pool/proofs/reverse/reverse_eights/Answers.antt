@@ -1,0 +1,12 @@
+use Rattle.std.proofs.Common.{arith}
+use Rattle.sample_pool.proofs.Numbers.{reversed_step, reversed_done}
+use Rattle.sample_pool.proofs.reverse.reverse_eights.Goals as goal
+
+pub numbers-preserved : goal.numbers-preserved
+numbers-preserved c =
+    reversed_step 8 c.args.from.now c.numbers.to c.reverse_eight.new.to c.args.count c.numbers.i c.numbers-test.true c.reverse_eight.ensures.front c.numbers.invariant
+
+pub returns : goal.returns
+returns c =
+    let len = c.numbers.auto.to in
+    reversed_done 8 c.args.from.now c.numbers.to c.args.count c.numbers.i c.numbers-test.false (omega arith) c.numbers.invariant
