@@ -14,8 +14,11 @@ use Rattle.feed_samples.specs.declared.scan.SampleScan.{SampleScan}
 use Rattle.feed_samples.specs.Scan.{Knows}
 use Rattle.feed_samples.specs.declared.stage.Stage.{Stage}
 use Rattle.feed_samples.specs.declared.stage.Stage.TheVariants.{Reply, Samples}
+use Rattle.feed_samples.specs.declared.step.FeedStep.{FeedStep}
+use Rattle.feed_samples.specs.declared.stage.Quiet.{Quiet}
+use Rattle.feed_samples.specs.declared.stage.Quiet.TheVariants as quiet
 use Rattle.feed_samples.specs.declared.stage.Inner.{Inner}
-use Rattle.feed_samples.specs.declared.stage.Inner.TheVariants.{Answer, Again, Want}
+use Rattle.feed_samples.specs.declared.stage.Inner.TheVariants as inner
 use Rattle.feed_samples.specs.Inlet.{InletState, rules_of, with_reading, with_given, FitsGiven}
 use Rattle.xdf_model.specs.declared.types.Shape.{Shape}
 
@@ -63,15 +66,25 @@ abbrev pub IsKnown : Stage → Shape → List ℕ → ReplyScan → SampleScan �
 IsKnown Reply shape counted reply sample = IsScanOf counted reply
 IsKnown (Samples order tests) shape counted reply sample = Knows shape order counted sample
 
--- what was answered of the bytes that were taken, or that more are wanted
-abbrev pub Does : InletState → InletState → Inner → Type 0
-Does old new (Answer (Sample s)) = (next : Reading FeedState FeedEnd) × Passes (rules_of old) old.reading (Some s) next × (new ≡ with_given old next)
-Does old new (Answer (End e)) = EndsAs (rules_of old) old.reading e × (new ≡ with_reading old (done e))
-Does old new (Answer Memory) = new ≡ old
-Does old new Again = (next : Reading FeedState FeedEnd) × Passes (rules_of old) old.reading None next × (new ≡ with_reading old next)
-Does old new Want = Wants (rules_of old) old.reading × (new ≡ old)
+-- what is done where this is answered
+abbrev pub DoesAnswer : InletState → InletState → FeedStep → Type 0
+DoesAnswer old new (Sample s) = (next : Reading FeedState FeedEnd) × Passes (rules_of old) old.reading (Some s) next × (new ≡ with_given old next)
+DoesAnswer old new (End e) = EndsAs (rules_of old) old.reading e × (new ≡ with_reading old (done e))
+DoesAnswer old new Memory = new ≡ old
 
-abbrev pub FitsInner : Shape → Inner → Type 0
-FitsInner shape (Answer step) = FitsGiven shape step
-FitsInner shape Again = ⊤
-FitsInner shape Want = ⊤
+-- what is done where the bytes that were taken give no sample
+abbrev pub Does : InletState → InletState → Quiet → Type 0
+Does old new (quiet.End e) = DoesAnswer old new (End e)
+Does old new quiet.Again = (next : Reading FeedState FeedEnd) × Passes (rules_of old) old.reading None next × (new ≡ with_reading old next)
+Does old new quiet.Want = Wants (rules_of old) old.reading × (new ≡ old)
+
+-- the same where they may give the sample s
+abbrev pub DoesInto : InletState → InletState → SampleValue → Inner → Type 0
+DoesInto old new s inner.Filled = DoesAnswer old new (Sample s) × FitsGiven old.shape (Sample s)
+DoesInto old new s inner.Memory = DoesAnswer old new Memory
+DoesInto old new s (inner.Quiet q) = Does old new q
+
+-- nothing was gone past before the reply
+abbrev pub IsFreeAt : Stage → ℕ → Type 0
+IsFreeAt Reply free = free ≡ 0
+IsFreeAt (Samples order tests) free = ⊤

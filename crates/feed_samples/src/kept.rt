@@ -1,6 +1,6 @@
 //! What a reader of a feed keeps between two reads.
 
-ghost use Rattle.std.specs.Prelude.{◌≡◌, ◌≤◌, ◌<◌, ◌+◌, ◌-◌, ◌^◌, ℕ, List, [], length, take, Option, Some, IsTrue, false, IfOk, OnErr, IsErrOf};
+ghost use Rattle.std.specs.Prelude.{◌≡◌, ◌≤◌, ◌<◌, ◌+◌, ◌-◌, ◌*◌, ◌^◌, ℕ, List, [], length, take, Option, Some, IsTrue, false, IfOk, OnErr, IsErrOf};
 ghost use Rattle.std.specs.Option.{option_copied};
 ghost use Rattle.std.specs.Io.KnownBytes.{IsAtEnd, Keeps, Consumes};
 ghost use Rattle.rec_base.specs.Causes.{Rose};
@@ -9,16 +9,20 @@ ghost use Rattle.reading_model.specs.Reading.{going, done};
 ghost use Rattle.piece_reader.specs.Steps.{EndsAs, Wants, end_of, gained};
 ghost use Rattle.inlet_model.specs.Inlet.{before_reply, one_less};
 ghost use Rattle.feed_samples.specs.Inlet.{rules_of, with_reading, end_in};
-ghost use Rattle.feed_samples.specs.Kept.{Does, FitsInner, IsBeforeReply, IsBehindReply, IsGoing, IsOpen, IsShort};
+ghost use Rattle.xdf_model.specs.Sample.{size_of};
+ghost use Rattle.feed_samples.specs.Blocks.{DoesBlock};
+ghost use Rattle.feed_samples.specs.Kept.{Does, DoesInto, IsBeforeReply, IsBehindReply, IsGoing, IsOpen, IsShort};
 
-use crate::read::{SampleRead, read_feed_sample};
+use crate::block::InnerBlock;
+use crate::read::{SampleFill, fill_feed_sample};
 use crate::scan::SampleScan;
-use crate::stage::{Inner, Stage};
-use crate::step::FeedStep;
+use crate::stage::{Inner, Quiet, Stage};
 use feed_reply::{Order, ReplyScan, ReplyStep};
 use inlet_model::FeedEnd;
 use piece_reader::{Held, PieceFault};
 use rec_base::{Memory, Source, Word};
+use sample_pool::{Block, BlockRead, block_from_feed};
+use sample_values::Sample;
 use std::alloc::Global;
 use std::marker::Model;
 use xdf_model::Shape;
@@ -50,16 +54,18 @@ pub struct Kept {
 impl Model for Kept {
     ghost use Rattle.std.specs.Prelude.{length, take, ◌≤◌, ◌+◌, ◌-◌, ◌^◌};
     ghost use Rattle.feed_samples.specs.Inlet.{InletState};
-    ghost use Rattle.feed_samples.specs.Kept.{IsKnown, reading_of, state_of, StandsAt};
+    ghost use Rattle.feed_samples.specs.Kept.{IsFreeAt, IsKnown, reading_of, state_of, StandsAt};
 
     ghost Value = { InletState };
 
     ghost view = { λ k. record { uid = k.uid; shape = k.shape; reading = reading_of k.ending (state_of k.stage k.quota k.place) k.held.bytes (k.byte_limit - k.place); received = k.received; byte_limit = k.byte_limit } };
 
-    ghost invariant = { λ k. StandsAt k.stage k.place × (k.received ≤ k.place) × (k.place ≤ k.byte_limit) × (k.byte_limit ≤ 2 ^ 40) × (k.place + length k.held.bytes ≤ k.byte_limit + 1) × IsKnown k.stage k.shape (take (k.byte_limit - k.place) k.held.bytes) k.reply_scan k.sample_scan };
+    ghost invariant = { λ k. StandsAt k.stage k.place × (k.received ≤ k.place) × (k.place ≤ k.byte_limit) × (k.byte_limit ≤ 2 ^ 40) × (k.place + length k.held.bytes ≤ k.byte_limit + 1) × IsKnown k.stage k.shape (take (k.byte_limit - k.place) k.held.bytes) k.reply_scan k.sample_scan
+        × (327_680 ≤ k.held.places) × IsFreeAt k.stage k.held.free };
 }
 
 // The bytes that count.
+#[inline]
 fn counted(bytes: &[u8], room: usize) -> &[u8]
     ensures { result.now ≡ take room bytes.now }
 {
@@ -76,6 +82,7 @@ fn uid_bytes(uid: &Option<Word>) -> Option<&[u8]>
 }
 
 // Whether no sample may be given any more.
+#[inline]
 fn is_spent(quota: Option<u64>) -> bool
     ensures spent { IsTrue result → quota ≡ Some 0 }
     ensures open { result ≡ false → IsOpen quota }
@@ -83,6 +90,7 @@ fn is_spent(quota: Option<u64>) -> bool
     matches!(quota, Some(0))
 }
 
+#[inline]
 fn less(quota: Option<u64>) -> Option<u64>
     ensures { result ≡ one_less quota }
 {
@@ -128,6 +136,11 @@ impl Kept {
         self.ending
     }
 
+    /// Where memory is taken from.
+    pub(crate) fn alloc(&self) -> Global {
+        self.alloc
+    }
+
     /// How many samples were given.
     pub(crate) fn received(&self) -> u64
         ensures { result ≡ self.now.received }
@@ -136,44 +149,40 @@ impl Kept {
     }
 
     // Ends the reading.
-    fn finish(&mut self, end: FeedEnd) -> FeedStep
+    fn finish(&mut self, end: FeedEnd)
         ensures over { self.new ≡ with_reading self.old (done end) }
-        ensures value { result ≡ FeedStep.End end }
         ensures received { self.new.received ≤ self.new.byte_limit }
     {
         self.ending = Some(end);
-        FeedStep::End(end)
     }
 
     // Ends the reading by the bytes that were taken.
-    fn stop(&mut self, end: FeedEnd) -> Inner
+    fn stop(&mut self, end: FeedEnd) -> Quiet
         requires { EndsAs (rules_of self.old) self.old.reading end }
         ensures does { Does self.old self.new result }
-        ensures fits { FitsInner self.old.shape result }
         ensures received { self.new.received ≤ self.new.byte_limit }
     {
-        Inner::Answer(self.finish(end))
+        self.finish(end);
+        Quiet::End(end)
     }
 
     // Asks for more bytes, if more count.
-    fn ask(&mut self) -> Inner
+    fn ask(&mut self) -> Quiet
         requires { IsShort (rules_of self.old) self.old.reading }
         ensures does { Does self.old self.new result }
-        ensures fits { FitsInner self.old.shape result }
         ensures received { self.new.received ≤ self.new.byte_limit }
     {
         if self.held.bytes().len() > self.byte_limit - self.place {
             self.stop(FeedEnd::ByteLimit)
         } else {
-            Inner::Want
+            Quiet::Want
         }
     }
 
     // What the bytes say where the reply comes next.
-    fn reply_step(&mut self) -> Inner
+    fn reply_step(&mut self) -> Quiet
         requires { IsBeforeReply self.old.reading }
         ensures does { Does self.old self.new result }
-        ensures fits { FitsInner self.old.shape result }
         ensures received { self.new.received ≤ self.new.byte_limit }
     {
         let bytes = counted(self.held.bytes(), self.byte_limit - self.place);
@@ -186,7 +195,7 @@ impl Kept {
                     tests: 2,
                 };
                 self.sample_scan = SampleScan::new();
-                Inner::Again
+                Quiet::Again
             }
             ReplyStep::More => self.ask(),
             ReplyStep::Refused { at, why } => {
@@ -196,66 +205,125 @@ impl Kept {
         }
     }
 
-    // What the bytes say where a sample comes next.
-    fn sample_step(&mut self, order: Order, tests: u8) -> Inner
+    // What the bytes say where a sample comes next, which goes into the one that is lent.
+    #[inline]
+    fn sample_step(&mut self, order: Order, tests: u8, sample: &mut Sample) -> Inner
         requires { IsBehindReply order tests self.old.reading }
-        ensures does { Does self.old self.new result }
-        ensures fits { FitsInner self.old.shape result }
+        ensures does { DoesInto self.old self.new sample.new result }
         ensures received { self.new.received ≤ self.new.byte_limit }
     {
         if is_spent(self.quota) {
-            return self.stop(FeedEnd::Limit);
+            return Inner::Quiet(self.stop(FeedEnd::Limit));
         }
         let bytes = counted(self.held.bytes(), self.byte_limit - self.place);
-        if self.sample_scan.is_short(&self.shape, order, bytes) {
-            return self.ask();
+        if self.sample_scan.is_still_short(&self.shape, order, bytes) {
+            return Inner::Quiet(self.ask());
         }
         let place = self.place;
-        match read_feed_sample(self.alloc, &self.shape, order, bytes) {
-            SampleRead::Whole { sample, used } => {
+        match fill_feed_sample(self.alloc, &self.shape, order, bytes, sample) {
+            SampleFill::Whole { used } => {
                 self.held.pass(used);
                 self.place += used;
                 self.sample_scan = SampleScan::new();
                 if tests > 0 {
                     let tests = tests - 1;
                     self.stage = Stage::Samples { order, tests };
-                    return Inner::Again;
+                    return Inner::Quiet(Quiet::Again);
                 }
                 self.quota = less(self.quota);
                 self.received += 1;
-                Inner::Answer(FeedStep::Sample(sample))
+                Inner::Filled
             }
-            SampleRead::Short => self.ask(),
-            SampleRead::BadTag { at, byte } => {
+            SampleFill::Short => {
+                // The next piece goes on where these bytes end.
+                self.sample_scan.is_short(&self.shape, order, bytes);
+                Inner::Quiet(self.ask())
+            }
+            SampleFill::BadTag { at, byte } => {
                 let at = (place + at) as u64;
-                self.stop(FeedEnd::BadTag { at, byte })
+                Inner::Quiet(self.stop(FeedEnd::BadTag { at, byte }))
             }
-            SampleRead::BadWidth { at, byte } => {
+            SampleFill::BadWidth { at, byte } => {
                 let at = (place + at) as u64;
-                self.stop(FeedEnd::BadWidth { at, byte })
+                Inner::Quiet(self.stop(FeedEnd::BadWidth { at, byte }))
             }
-            SampleRead::TooLong { at } => self.stop(FeedEnd::SampleTooLong((place + at) as u64)),
-            SampleRead::Memory => Inner::Answer(FeedStep::Memory),
+            SampleFill::TooLong { at } => {
+                Inner::Quiet(self.stop(FeedEnd::SampleTooLong((place + at) as u64)))
+            }
+            SampleFill::Memory => Inner::Memory,
         }
     }
 
-    /// What the bytes that were taken say, if they say something.
-    pub(crate) fn step(&mut self) -> Inner
+    /// What the bytes that were taken say, if they say something. A sample goes into the one that is
+    /// lent.
+    #[inline]
+    pub(crate) fn step(&mut self, sample: &mut Sample) -> Inner
         requires { IsGoing self.old.reading }
-        ensures does { Does self.old self.new result }
-        ensures fits { FitsInner self.old.shape result }
+        ensures does { DoesInto self.old self.new sample.new result }
         ensures received { self.new.received ≤ self.new.byte_limit }
     {
         match self.stage {
-            Stage::Reply => self.reply_step(),
-            Stage::Samples { order, tests } => self.sample_step(order, tests),
+            Stage::Reply => Inner::Quiet(self.reply_step()),
+            Stage::Samples { order, tests } => self.sample_step(order, tests, sample),
+        }
+    }
+
+    // What the bytes say where a sample of numbers comes next, which goes into the block.
+    #[inline]
+    fn sample_block(&mut self, order: Order, tests: u8, block: &mut Block) -> InnerBlock
+        requires behind { IsBehindReply order tests self.old.reading }
+        requires numeric { 1 ≤ size_of self.old.shape.format }
+        requires room { 9 + self.old.shape.count * size_of self.old.shape.format ≤ block.old.length }
+        ensures does { DoesBlock self.old self.new block.new.bytes result }
+        ensures received { self.new.received ≤ self.new.byte_limit }
+        ensures length { block.new.length ≡ block.old.length }
+    {
+        if is_spent(self.quota) {
+            return InnerBlock::Quiet(self.stop(FeedEnd::Limit));
+        }
+        let bytes = counted(self.held.bytes(), self.byte_limit - self.place);
+        match block_from_feed(&self.shape, order, bytes, block) {
+            BlockRead::Whole { used } => {
+                self.held.pass(used);
+                self.place += used;
+                self.sample_scan = SampleScan::new();
+                if tests > 0 {
+                    let tests = tests - 1;
+                    self.stage = Stage::Samples { order, tests };
+                    return InnerBlock::Quiet(Quiet::Again);
+                }
+                self.quota = less(self.quota);
+                self.received += 1;
+                InnerBlock::Filled
+            }
+            BlockRead::Short => InnerBlock::Quiet(self.ask()),
+            BlockRead::BadTag { at, byte } => {
+                let at = (self.place + at) as u64;
+                InnerBlock::Quiet(self.stop(FeedEnd::BadTag { at, byte }))
+            }
+        }
+    }
+
+    /// What the bytes that were taken say, if they say something. A sample goes into the block.
+    #[inline]
+    pub(crate) fn step_block(&mut self, block: &mut Block) -> InnerBlock
+        requires going { IsGoing self.old.reading }
+        requires numeric { 1 ≤ size_of self.old.shape.format }
+        requires room { 9 + self.old.shape.count * size_of self.old.shape.format ≤ block.old.length }
+        ensures does { DoesBlock self.old self.new block.new.bytes result }
+        ensures received { self.new.received ≤ self.new.byte_limit }
+        ensures length { block.new.length ≡ block.old.length }
+    {
+        match self.stage {
+            Stage::Reply => InnerBlock::Quiet(self.reply_step()),
+            Stage::Samples { order, tests } => self.sample_block(order, tests, block),
         }
     }
 
     /// The end where no byte is left.
-    pub(crate) fn end_input(&mut self) -> FeedStep
+    pub(crate) fn end_input(&mut self) -> FeedEnd
         requires { IsGoing self.old.reading }
-        ensures value { result ≡ FeedStep.End (end_of (rules_of self.old) self.old.reading ended) }
+        ensures value { result ≡ end_of (rules_of self.old) self.old.reading ended }
         ensures over { self.new ≡ with_reading self.old (done (end_of (rules_of self.old) self.old.reading ended)) }
     {
         let end = match self.stage {
@@ -263,16 +331,18 @@ impl Kept {
             Stage::Samples { tests: 0, .. } if self.held.bytes().is_empty() => FeedEnd::Whole,
             Stage::Samples { .. } => FeedEnd::TornSample(self.place as u64),
         };
-        self.finish(end)
+        self.finish(end);
+        end
     }
 
     /// The end where a read failed.
-    pub(crate) fn fail(&mut self) -> FeedStep
+    pub(crate) fn fail(&mut self) -> FeedEnd
         requires { IsGoing self.old.reading }
-        ensures value { result ≡ FeedStep.End FeedEnd.ReadFault }
+        ensures value { result ≡ FeedEnd.ReadFault }
         ensures over { self.new ≡ with_reading self.old (done FeedEnd.ReadFault) }
     {
-        self.finish(FeedEnd::ReadFault)
+        self.finish(FeedEnd::ReadFault);
+        FeedEnd::ReadFault
     }
 
     /// Takes one piece of the source: as much as there is room for, but no more than one byte past
@@ -285,6 +355,7 @@ impl Kept {
         ensures left { OnErr result (Keeps (S.left source.old) (S.left source.new)) }
         ensures failed { IsErrOf result PieceFault.Failed → Rose (S.faults source.old) (S.faults source.new) }
         ensures memory { IsErrOf result PieceFault.Memory → source.new ≡ source.old }
+        ensures roomy { 1 ≤ size_of self.old.shape.format → self.old.shape.count ≤ 4096 → IsErrOf result PieceFault.Memory → ⊥ }
         ensures later { S.faults source.old ≤ S.faults source.new }
         ensures marked { S.mark source.new ≡ S.mark source.old }
     {

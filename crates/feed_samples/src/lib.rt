@@ -6,11 +6,14 @@
 //! first from the left is told. No length makes it take memory before the text's bytes are there.
 //!
 //! `FeedReader` reads a whole feed from a source, in pieces of any size. It gives the samples behind the
-//! reply and two test samples, and then the end of the feed, as `inlet_model` defines them. Each
-//! byte is looked at a fixed number of times, for pieces of one byte too, and what was gone past
-//! isn't kept.
+//! reply and two test samples, and then the end of the feed, as `inlet_model` defines them: each
+//! sample by itself (`next`), in one that is lent, whose memory is used again (`next_into`), or of a
+//! feed of numbers as its text in a block, which takes no memory at all (`next_block`). Each byte
+//! is looked at a fixed number of times, for pieces of one byte too, and what was gone past isn't
+//! kept.
 #![tactic(auto)]
 
+mod block;
 mod fault;
 mod fields;
 mod kept;
@@ -21,11 +24,12 @@ mod stage;
 mod step;
 mod values;
 
+pub use block::BlockStep;
 pub use feed_reply::Order;
 pub use inlet_model::FeedEnd;
 pub use read::{SampleRead, read_feed_sample};
 pub use reader::FeedReader;
-pub use step::FeedStep;
+pub use step::{FeedStep, FillStep};
 
 #[cfg(test)]
 mod reader_tests;
