@@ -2,7 +2,7 @@
 
 ghost use Rattle.std.specs.Prelude.{◌≡◌, ◌≤◌, ◌<◌, ◌+◌, ◌==◌, ◌^◌, OnOk, OnErr, IfOk, IfErr, IsErrOf, Option, Some, None, List, [], ℕ, slice_get, length, sum_by, true, false, if◌then◌else◌};
 ghost use Rattle.rec_base.specs.Causes.{Rose};
-ghost use Rattle.xdf_model.specs.Sample.{FitsShape};
+ghost use Rattle.xdf_model.specs.Sample.{Sample as SampleValue, FitsShape, least_sample_text};
 ghost use Rattle.feed_model.specs.Feed.{text_size, text_limit};
 ghost use Rattle.recording_model.specs.declared.stream.StreamDoc.{StreamDoc as StreamValue};
 ghost use Rattle.recording_model.specs.Batch.{Batch};
@@ -72,6 +72,48 @@ impl Desk {
         self.make_room(scratch.len())?;
         self.put_text(sink, place, position, scratch)?;
         Ok(())
+    }
+
+    /// Puts the sample whose text this is.
+    #[inline]
+    pub(crate) fn put_ready<K: Sink>(
+        &mut self,
+        sink: &mut K,
+        place: usize,
+        position: u64,
+        text: &[u8],
+    ) -> Result<(), WriterFault>
+        requires place { place < length self.old.places }
+        requires position { position < 2 ^ 41 }
+        requires low { next_at self.old place ≤ position }
+        requires free { IsFreeFor self.old place }
+        requires some { 1 ≤ length text.now }
+        requires short { length text.now ≤ 1_048_576 }
+        requires whole { self.old.broken ≡ false }
+        ensures put { (streams : List StreamValue) (base : Option (List ℕ)) (batches : List Batch) (current : Option Batch) (sample : SampleValue) (x : PlaceValue)
+            → StandsFor streams base (K.held sink.old) self.old batches current
+            → slice_get self.old.places place ≡ Some x → text.now ≡ least_sample_text x.shape sample → FitsShape x.shape sample
+            → OnOk result (StandsFor streams base (K.held sink.new) self.new batches (Some (with_entry place current position sample))) }
+        ensures cut { (streams : List StreamValue) (base : Option (List ℕ)) (batches : List Batch) (current : Option Batch) (sample : SampleValue) (x : PlaceValue)
+            → StandsFor streams base (K.held sink.old) self.old batches current
+            → slice_get self.old.places place ≡ Some x → text.now ≡ least_sample_text x.shape sample → FitsShape x.shape sample
+            → OnErr result (IsCut streams base (K.held sink.new) (closed batches (Some (with_entry place current position sample)))) }
+        ensures fault { IfErr result (λ f. f ≡ WriterFault.WriteFault) }
+        ensures next { OnOk result ((p : ℕ) → next_at self.new p ≡ (if p == place then position + 1 else next_at self.old p)) }
+        ensures shapes { OnOk result (shapes_of self.new ≡ shapes_of self.old) }
+        ensures open { OnOk result ((1 ≤ self.new.count) × (self.new.place ≡ place)) }
+        ensures whole { OnOk result (self.new.broken ≡ false) }
+        ensures broken { OnErr result (self.new.broken ≡ true) }
+        ensures cause { OnErr result (Rose (K.write_faults sink.old) (K.write_faults sink.new)) }
+        ensures later { K.write_faults sink.old ≤ K.write_faults sink.new }
+        ensures rest { K.rest sink.new ≡ K.rest sink.old }
+    {
+        let _room = self.texts.room();
+        self.spot(place);
+        match self.put_text(sink, place, position, text) {
+            Ok(()) => Ok(()),
+            Err(_) => Err(WriterFault::WriteFault),
+        }
     }
 
     /// Writes the open batch.

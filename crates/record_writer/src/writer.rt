@@ -3,7 +3,7 @@
 ghost use Rattle.std.specs.Prelude.{◌≡◌, ◌≤◌, ◌<◌, ◌+◌, ◌==◌, ◌^◌, OnOk, OnErr, IfOk, IfErr, IsErrOf, Option, Some, None, List, [], ℕ, slice_get, length, map, sum_by, true, false, if◌then◌else◌};
 ghost use Rattle.std.specs.List.{AllByRecursion};
 ghost use Rattle.rec_base.specs.Causes.{Rose};
-ghost use Rattle.xdf_model.specs.Sample.{FitsShape};
+ghost use Rattle.xdf_model.specs.Sample.{Sample as SampleValue, FitsShape, least_sample_text};
 ghost use Rattle.feed_model.specs.Feed.{text_size, text_limit};
 ghost use Rattle.recording_model.specs.declared.stream.StreamDoc.{StreamDoc as StreamValue};
 ghost use Rattle.recording_model.specs.Batch.{Batch};
@@ -13,8 +13,9 @@ ghost use Rattle.record_writer.specs.declared.place.Place.{Place as PlaceValue};
 use crate::fault::WriterFault;
 use crate::room::WriterRoom;
 use crate::written::Written;
-use rec_base::Sink;
+use rec_base::{Failed, Sink};
 use recording_model::StreamDoc;
+use sample_pool::{Block, block_bytes};
 use sample_values::Sample;
 use std::alloc::Global;
 
@@ -73,6 +74,29 @@ impl<'a, K: Sink> Lent<'a, K, WriterRoom> {
         self.room.desk.begin(self.sink)
     }
 
+    /// Begins in a room that was made before: a writer that has written the headers, as `begin` does.
+    /// This project's own. It takes no memory.
+    ///
+    /// `Failed` comes only where a write of the sink failed in this call; a front of the headers went
+    /// out then. What a sink that is lent to nobody any more holds after an `Err` can't be said here;
+    /// with `over` and `begin` it is.
+    pub fn open_in(sink: &'a mut K, room: WriterRoom) -> Result<Lent<'a, K, WriterRoom>, Failed>
+        requires whole { room.desk.broken ≡ false }
+        ensures same_reference { IfOk result (λ w. w.sink.ghost_name ≡ sink.entry.ghost_name) }
+        ensures begun { (streams : List StreamValue) → IsReady streams room.desk
+            → IfOk result (λ w. StandsFor streams (K.held sink.old) (K.held w.sink.now) w.room.desk [] None) }
+        ensures kept { IfOk result (λ w. w.room.desk ≡ room.desk) }
+        ensures whole { IfOk result (λ w. w.room.desk.broken ≡ false) }
+        ensures later { IfOk result (λ w. K.write_faults sink.old ≤ K.write_faults w.sink.now) }
+        ensures rest { IfOk result (λ w. K.rest w.sink.now ≡ K.rest sink.old) }
+    {
+        let mut writer = Lent::over(sink, room);
+        match writer.begin() {
+            Ok(()) => Ok(writer),
+            Err(_) => Err(Failed),
+        }
+    }
+
     /// Makes the room, and begins: a writer that has written the headers.
     ///
     /// `WriteFault` comes only where a write of the sink failed in this call; a front of the headers
@@ -96,9 +120,7 @@ impl<'a, K: Sink> Lent<'a, K, WriterRoom> {
         ensures rest { IfOk result (λ w. K.rest w.sink.now ≡ K.rest sink.old) }
     {
         let room = WriterRoom::new(alloc, streams)?;
-        let mut writer = Lent::over(sink, room);
-        writer.begin()?;
-        Ok(writer)
+        Ok(Lent::open_in(sink, room)?)
     }
 
     /// Puts the sample at a position of the stream at a place, both counted from 0. Where positions are
@@ -138,6 +160,51 @@ impl<'a, K: Sink> Lent<'a, K, WriterRoom> {
         self.room
             .desk
             .put(&mut self.room.scratch, self.sink, place, position, sample)
+    }
+
+    /// Puts the sample whose text a block holds, at a position of the stream at a place, as
+    /// [`put`](Lent::put) puts a sample: rows, chunks and boundaries are the same. The text is what the
+    /// file has for the sample (XDF 1.0, "Samples chunk"), its numbers lowest byte first, and has at most
+    /// 1,048,576 bytes. It takes no memory.
+    ///
+    /// `WriteFault` is the only error, and comes only where a write of the sink failed in this call. A
+    /// front of a recording's file is held then, and the writer is broken.
+    #[inline]
+    pub fn put_block(
+        &mut self,
+        place: usize,
+        position: u64,
+        block: &Block,
+    ) -> Result<(), WriterFault>
+        requires place { place < length self.old.room.desk.places }
+        requires position { position < 2 ^ 41 }
+        requires low { next_at self.old.room.desk place ≤ position }
+        requires free { IsFreeFor self.old.room.desk place }
+        requires some { 1 ≤ length block.now.bytes }
+        requires short { length block.now.bytes ≤ 1_048_576 }
+        requires whole { self.old.room.desk.broken ≡ false }
+        ensures same_reference { self.new.sink.ghost_name ≡ self.old.sink.ghost_name }
+        ensures put { (streams : List StreamValue) (base : Option (List ℕ)) (batches : List Batch) (current : Option Batch) (sample : SampleValue) (x : PlaceValue)
+            → StandsFor streams base (K.held self.old.sink.now) self.old.room.desk batches current
+            → slice_get self.old.room.desk.places place ≡ Some x → block.now.bytes ≡ least_sample_text x.shape sample → FitsShape x.shape sample
+            → OnOk result (StandsFor streams base (K.held self.new.sink.now) self.new.room.desk batches (Some (with_entry place current position sample))) }
+        ensures cut { (streams : List StreamValue) (base : Option (List ℕ)) (batches : List Batch) (current : Option Batch) (sample : SampleValue) (x : PlaceValue)
+            → StandsFor streams base (K.held self.old.sink.now) self.old.room.desk batches current
+            → slice_get self.old.room.desk.places place ≡ Some x → block.now.bytes ≡ least_sample_text x.shape sample → FitsShape x.shape sample
+            → OnErr result (IsCut streams base (K.held self.new.sink.now) (closed batches (Some (with_entry place current position sample)))) }
+        ensures fault { IfErr result (λ f. f ≡ WriterFault.WriteFault) }
+        ensures next { OnOk result ((p : ℕ) → next_at self.new.room.desk p ≡ (if p == place then position + 1 else next_at self.old.room.desk p)) }
+        ensures shapes { OnOk result (shapes_of self.new.room.desk ≡ shapes_of self.old.room.desk) }
+        ensures open { OnOk result ((1 ≤ self.new.room.desk.count) × (self.new.room.desk.place ≡ place)) }
+        ensures whole { OnOk result (self.new.room.desk.broken ≡ false) }
+        ensures broken { OnErr result (self.new.room.desk.broken ≡ true) }
+        ensures cause { OnErr result (Rose (K.write_faults self.old.sink.now) (K.write_faults self.new.sink.now)) }
+        ensures later { K.write_faults self.old.sink.now ≤ K.write_faults self.new.sink.now }
+        ensures rest { K.rest self.new.sink.now ≡ K.rest self.old.sink.now }
+    {
+        self.room
+            .desk
+            .put_ready(self.sink, place, position, block_bytes(block))
     }
 
     /// Closes the open batch, if there is one: its last chunk is written. It takes no memory.
