@@ -114,13 +114,13 @@ module _ (number : ℕ) (chunks : List Chunk) (law : (id : ℕ) → 1 ≤ id →
       let K : StreamDoc → ℕ = λ s. lost_in s.id chunks in
       ap (λ r. lost_at r 0 + lost_at r 1 + lost_at r 2) told ∙ ap (λ s. K s + K b.stream + K c.stream) first ∙ ap (λ s. K (drill_stream 1) + K s + K c.stream) second ∙ ap (λ s. K (drill_stream 1) + K (drill_stream 2) + K s) third
 
-pub recorded_of : (number : ℕ) (before now : List ℕ) (streams : List StreamDoc) (feeds : List (FeedSource (List ℕ))) (reports : List FeedReport) (bytes count kept lost : ℕ)
+pub recorded_of : (number : ℕ) (before now : List ℕ) (streams : List StreamDoc) (feeds : List (FeedSource (List ℕ))) (reports : List FeedReport) (sources : List (List ℕ)) (bytes count kept lost : ℕ)
     → ((id : ℕ) → 1 ≤ id → id ≤ 3 → feed_within None (drill_shape id) None (2 ^ 40) (drill_bytes number id) ≡ (drill_samples number id, Whole)) → before ≡ [] → streams ≡ drill_streams → feeds ≡ drill_sources number
     → kept ≡ told_count (kept_at reports 0 + kept_at reports 1 + kept_at reports 2) → lost ≡ told_count (lost_at reports 0 + lost_at reports 1 + lost_at reports 2)
-    → IsRecorded left_of no_faults no_mark drill_ring drill_batch streams feeds (Some before) (Some now) reports bytes count
+    → IsRecorded left_of no_faults no_mark drill_ring drill_batch streams feeds (Some before) (Some now) reports bytes count sources
     → (cs : List Chunk) × IsRecording drill_streams (turn_batches drill_ring drill_batch (map (drill_samples number) drill_ids)) cs × IsFileText cs (least_file_text cs) × (now ≡ least_file_text cs) × (count ≡ told_count (length cs))
     × (kept ≡ told_count (all_kept cs)) × (lost ≡ told_count (all_lost cs))
-recorded_of number before now streams feeds reports bytes count kept lost law empty streams_are feeds_are kept_is lost_is r =
+recorded_of number before now streams feeds reports sources bytes count kept lost law empty streams_are feeds_are kept_is lost_is r =
     let R : List StreamDoc → List (FeedSource (List ℕ)) → Type 0 = λ s f. IsRun left_of no_faults no_mark drill_ring drill_batch s f r.fed r.chunks in
     let run : R drill_streams (drill_sources number) = subst (λ f. R drill_streams f) feeds_are (subst (λ s. R s feeds) streams_are r.run) in
     let samples = fed_samples number r.chunks law r.fed run in (

@@ -13,6 +13,7 @@ use Rattle.record_writer.specs.Desk.{capped}
 use Rattle.record_run.specs.declared.feed.FeedSource.{FeedSource}
 use Rattle.record_run.specs.declared.report.FeedReport.{FeedReport}
 use Rattle.record_run.specs.Cost.{cost_of}
+use Rattle.record_run.specs.Recorders.{AreNumbers}
 use Rattle.record_run.specs.Run.{Fed, IsRun, report_of}
 use Rattle.plan_model.specs.Sound.{IsPlan}
 use Rattle.record_call.specs.Feeds.{document_name, names_of, AreStreamsOf, AreSourcesOf, AreToldOf, HasNoStream, HasFailedDocument}
@@ -38,6 +39,14 @@ asked_cost plan streams = cost_of plan.ring (map (λ s. s.shape) streams)
 pub record IsAsked (contents : Option Contents) (words : List (List ℕ)) (out : List ℕ) (plan : Plan) (streams : List StreamDoc) : Type 0 where
   pub has : HasStreams contents words out plan streams
   pub cost : asked_cost plan streams ≤ cost_limit
+
+-- the plan that the words ask for can be recorded, and one of its streams is of texts
+pub record HasTexts (contents : Option Contents) (words : List (List ℕ)) : Type 0 where
+  pub out : List ℕ
+  pub plan : Plan
+  pub streams : List StreamDoc
+  pub asked : IsAsked contents words out plan streams
+  pub texts : AreNumbers streams → ⊥
 
 -- the plan that the words ask for costs so much, which is too much
 pub record IsTooMuch (contents : Option Contents) (words : List (List ℕ)) (cost : ℕ) : Type 0 where

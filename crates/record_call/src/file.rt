@@ -6,7 +6,7 @@ ghost use Rattle.plan_model.specs.declared.top.Top.TheVariants.{Record as top_re
 ghost use Rattle.plan_model.specs.Commands.{command_in};
 ghost use Rattle.dock_calls.specs.Said.{is_usage};
 ghost use Rattle.record_call.specs.Plans.{IsRefused, HasFailedPlan};
-ghost use Rattle.record_call.specs.Recorded.{IsFileWritten, IsCreated, IsCutFile, IsTooMuch, IsUnserved, HasNoDocument, HasUnreadDocument};
+ghost use Rattle.record_call.specs.Recorded.{IsFileWritten, IsCreated, IsCutFile, IsTooMuch, IsUnserved, HasNoDocument, HasTexts, HasUnreadDocument};
 
 use crate::fault::RecordFault;
 use crate::ready::{Ready, make_ready};
@@ -37,6 +37,8 @@ pub(crate) fn write_file<D: Dock>(
         × Rose (D.write_faults created) (D.write_faults dock.new) }
     ensures memory { IsErrOf result RecordFault.Memory → ((D.target dock.new ≡ D.target dock.old) × (D.held dock.new ≡ D.held dock.old))
         ⊎ IsCutFile (D.contents dock.old) words.now (D.target dock.old) (D.target dock.new) (D.held dock.old) (D.held dock.new) }
+    ensures numbers { IsErrOf result RecordFault.Memory → ((D.target dock.new ≡ D.target dock.old) × (D.held dock.new ≡ D.held dock.old))
+        ⊎ HasTexts (D.contents dock.old) words.now }
     ensures no_file { IsErr result → IsErrOf result RecordFault.Write ⊎ IsErrOf result RecordFault.Memory
         ⊎ ((D.target dock.new ≡ D.target dock.old) × (D.held dock.new ≡ D.held dock.old)) }
     ensures no_say { IsErrOf result RecordFault.Say → ⊥ }

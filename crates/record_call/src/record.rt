@@ -14,7 +14,7 @@ ghost use Rattle.record_run.specs.Run.{Fed};
 ghost use Rattle.record_call.specs.Ends.{is_complete, record_status};
 ghost use Rattle.record_call.specs.Lines.{usage_text, plan_text, document_text, cost_text};
 ghost use Rattle.record_call.specs.Plans.{IsRefused, HasFailedPlan};
-ghost use Rattle.record_call.specs.Recorded.{IsFileOf, IsCreated, IsCutFile, IsTooMuch, IsUnserved, HasNoDocument, HasUnreadDocument, lines_of};
+ghost use Rattle.record_call.specs.Recorded.{IsFileOf, IsCreated, IsCutFile, IsTooMuch, IsUnserved, HasNoDocument, HasTexts, HasUnreadDocument, lines_of};
 ghost use Rattle.record_call.specs.Statuses.{is_status, is_recorded, is_without_file, has_plain_line, plain_text};
 
 use crate::end::are_complete;
@@ -52,6 +52,10 @@ fn record<D: Dock>(alloc: Global, words: &[Word], dock: &mut D) -> Result<bool, 
         × AppendsFront (D.printed dock.old) (D.printed dock.new) (printed_lines (lines_of fed chunks)) }
     ensures memory { IsErrOf result RecordFault.Memory → ((D.target dock.new ≡ D.target dock.old) × (D.held dock.new ≡ D.held dock.old))
         ⊎ IsCutFile (D.contents dock.old) words.now (D.target dock.old) (D.target dock.new) (D.held dock.old) (D.held dock.new) }
+    ensures numbers { IsErrOf result RecordFault.Memory → ((D.target dock.new ≡ D.target dock.old) × (D.held dock.new ≡ D.held dock.old))
+        ⊎ HasTexts (D.contents dock.old) words.now
+        ⊎ ((fed : List (Fed D.Source)) × (chunks : List ChunkValue)
+        × IsFileOf D.Source.left D.Source.faults D.Source.mark (D.contents dock.old) words.now (D.target dock.old) (D.target dock.new) (D.held dock.old) (D.held dock.new) fed chunks) }
     ensures no_file { IsErr result → IsErrOf result RecordFault.Write ⊎ IsErrOf result RecordFault.Memory ⊎ IsErrOf result RecordFault.Say
         ⊎ ((D.target dock.new ≡ D.target dock.old) × (D.held dock.new ≡ D.held dock.old)) }
     ensures none_said { IsErr result → IsErrOf result RecordFault.Say
@@ -90,7 +94,8 @@ fn record<D: Dock>(alloc: Global, words: &[Word], dock: &mut D) -> Result<bool, 
 ///   first feed whose document is such.
 /// - 7: the rings cost more than 1,073,741,824 bytes: `fault 7 asked N`.
 /// - 8: the file was written, and its lines can't be said.
-/// - 9: there is no memory, also for a fault's line. `fault 9`.
+/// - 9: there is no memory, also for a fault's line. `fault 9`. Where no feed has texts the output is
+///   then as it was, or whole.
 /// - 10: the plan isn't served yet: its mode is threads, or a feed comes from an outlet. `fault 10`.
 ///
 /// With 2, 3, 4, 6, 7 and 10 the output is as it was. A fault's line that can't be said changes no
@@ -137,6 +142,12 @@ pub fn record_main<D: Dock>(alloc: Global, words: &[Word], dock: &mut D) -> u8
     // no output was created, or a front of a recording's file is in it, which may be all of it
     ensures memory { result ≡ 9 → ((D.target dock.new ≡ D.target dock.old) × (D.held dock.new ≡ D.held dock.old))
         ⊎ IsCutFile (D.contents dock.old) words.now (D.target dock.old) (D.target dock.new) (D.held dock.old) (D.held dock.new) }
+
+    // with numbers alone no output was created, or the whole file was written, of whose lines none was said
+    ensures numbers { result ≡ 9 → ((D.target dock.new ≡ D.target dock.old) × (D.held dock.new ≡ D.held dock.old))
+        ⊎ HasTexts (D.contents dock.old) words.now
+        ⊎ ((fed : List (Fed D.Source)) × (chunks : List ChunkValue)
+        × IsFileOf D.Source.left D.Source.faults D.Source.mark (D.contents dock.old) words.now (D.target dock.old) (D.target dock.new) (D.held dock.old) (D.held dock.new) fed chunks) }
 
     ensures unserved { result ≡ 10 → IsUnserved (D.contents dock.old) words.now }
 

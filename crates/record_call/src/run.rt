@@ -4,6 +4,7 @@ ghost use Rattle.std.specs.Prelude.{◌≡◌, ◌≤◌, ◌⊎◌, length, IfO
 ghost use Rattle.std.specs.List.{AllByRecursion};
 ghost use Rattle.rec_base.specs.Causes.{Rose};
 ghost use Rattle.recording_model.specs.Recording.{AreStreams};
+ghost use Rattle.record_run.specs.Recorders.{AreNumbers};
 ghost use Rattle.record_call.specs.Recorded.{IsWritten, IsCut, IsCreated};
 
 use crate::fault::RecordFault;
@@ -55,6 +56,8 @@ pub(crate) fn record_turns<D: Dock>(
         × IsCut streams.items out.now (D.target dock.old) (D.target dock.new) (D.held dock.old) (D.held dock.new) }
     ensures memory { IsErrOf result RecordFault.Memory → ((D.target dock.new ≡ D.target dock.old) × (D.held dock.new ≡ D.held dock.old))
         ⊎ IsCut streams.items out.now (D.target dock.old) (D.target dock.new) (D.held dock.old) (D.held dock.new) }
+    ensures numbers { IsErrOf result RecordFault.Memory → ((D.target dock.new ≡ D.target dock.old) × (D.held dock.new ≡ D.held dock.old))
+        ⊎ (AreNumbers streams.items → ⊥) }
     ensures none_else { IsErr result → IsErrOf result RecordFault.Open ⊎ IsErrOf result RecordFault.Write ⊎ IsErrOf result RecordFault.Memory }
     ensures later { D.open_faults dock.old ≤ D.open_faults dock.new }
     ensures printed { D.printed dock.new ≡ D.printed dock.old }
@@ -70,6 +73,7 @@ pub(crate) fn record_turns<D: Dock>(
             reports,
             bytes,
             chunks,
+            ..
         } => Ok(Written {
             reports,
             bytes,

@@ -55,7 +55,7 @@ fn a_failed_write_leaves_a_front_of_the_file(rt: HostRuntime) -> Result<(), Fail
     let alloc: Global = rt.alloc();
     let feed = three_samples(alloc)?;
     let want = file_of_one(alloc)?;
-    for write in 1..4 {
+    for write in 1..5 {
         let files = [
             file("p", RING_OF_ONE),
             file("h", INT16_DOCUMENT),

@@ -1,12 +1,11 @@
 -- Entries of a ring, as they go one after the other to the writer.
-use Rattle.std.proofs.Common.{◌≡◌, ◌≢◌, ℕ, ◌+◌, ◌<◌, ◌≤◌, ◌==◌, inl, inr, false, List, [], ◌∷◌, ◌++◌, length, map, take, drop, if◌then◌else◌, Option, None, Some, Result, Ok, Err, refl, sym, ap, ◌∙◌, subst, append_assoc, arith}
+use Rattle.std.proofs.Common.{◌≡◌, ◌≢◌, ◌^◌, Bool, ℕ, ◌+◌, ◌<◌, ◌≤◌, inl, inr, false, List, [], ◌∷◌, ◌++◌, length, map, take, drop, Option, None, Some, Result, Ok, Err, refl, sym, ap, ◌∙◌, subst, append_assoc, arith}
 use Rattle.std.specs.Prelude.{slice_get, OnOk, OnErr}
 use Rattle.std.specs.List.{AllByRecursion}
 use Rattle.std.proofs.lemmas.Bool.Decides.{nat_tests}
 use Rattle.std.proofs.lemmas.List.{append-nil, length-map}
-use Rattle.std.proofs.lemmas.Option.{slice_get-map}
 use Rattle.xdf_model.specs.declared.types.Shape.{Shape}
-use Rattle.xdf_model.specs.Sample.{Sample, FitsShape}
+use Rattle.xdf_model.specs.Sample.{Sample}
 use Rattle.ring_model.specs.declared.entry.Entry.{Entry as RingEntry}
 use Rattle.ring_model.specs.Ring.{RingState, RingRun, Take}
 use Rattle.inlet_ring.specs.Lone.{Lone, take_events, StandsFor as RingStandsFor}
@@ -15,11 +14,10 @@ use Rattle.recording_model.specs.Batch.{Entry, Batch, entries_from}
 use Rattle.turns_model.specs.Turns.{batch_of}
 use Rattle.record_writer.specs.declared.place.Place.{Place}
 use Rattle.record_writer.specs.declared.fault.WriterFault.{WriterFault}
-use Rattle.record_writer.specs.declared.fault.WriterFault.TheVariants as fault
 use Rattle.record_writer.specs.Desk.{DeskState, next_at, shapes_of, IsFreeFor}
 use Rattle.record_writer.specs.Standing.{StandsFor, IsCut, closed, with_entry}
-use Rattle.record_writer.proofs.Stopped.{stands_cut}
 use Rattle.record_run.specs.Rings.{ring_entry}
+use Rattle.record_run.specs.FeedRings.{IsTake, IsOnePut, IsTakenAt}
 use Rattle.record_run.specs.Inlets.{InletView, IsFitting, IsDrained, AreWaiting}
 
 -- ---- the ring
@@ -31,14 +29,6 @@ cons_of (y ∷ q) x e = let same : y ≡ x = cc in ap (λ (z : _). z ∷ q) same
 pub nil_of : {A : Type 0} (q : List A) → slice_get q 0 ≡ None → q ≡ []
 nil_of [] e = refl
 nil_of (y ∷ q) e = absurd cc
-
--- the oldest entry was taken
-pub record IsTake (old new : Lone Sample) (e : RingEntry Sample) : Type 0 where
-  pub oldest : slice_get old.queue 0 ≡ Some e
-  pub queue : new.queue ≡ drop 1 old.queue
-  pub pushes : new.pushes ≡ old.pushes
-  pub capacity : new.capacity ≡ old.capacity
-  pub steps : (a : RingState Sample) → RingStandsFor old a → (b : RingState Sample) × RingRun old.capacity a (take_events old.queue) b × RingStandsFor new b
 
 -- these were taken out of a ring
 pub record HasTaken (old now : Lone Sample) (a b : RingState Sample) : Type 0 where
@@ -160,15 +150,6 @@ draining_none place x desk held shape is_shape waits count whole = record {
   states = λ s st. (s, st, record { puts = refl; taken = refl; dropped = refl });
 }
 
--- an entry was put
-pub record IsOnePut (place position : ℕ) (s : Sample) (before after : DeskState) (held_before held_after : Option (List ℕ)) : Type 0 where
-  pub put : (streams : List StreamDoc) (base : Option (List ℕ)) (batches : List Batch) (current : Option Batch) → StandsFor streams base held_before before batches current
-      → StandsFor streams base held_after after batches (Some (with_entry place current position s))
-  pub next : (p : ℕ) → next_at after p ≡ (if p == place then position + 1 else next_at before p)
-  pub shapes : shapes_of after ≡ shapes_of before
-  pub place_is : after.place ≡ place
-  pub whole : after.broken ≡ false
-
 waits_more : {S : Type 0} (shape : Shape) (now next : InletView S) (e : RingEntry Sample) (at after : ℕ) → ComesNext shape at now.ring.pushes e (drop 1 now.ring.queue) → IsTake now.ring next.ring e → after ≡ e.position + 1
     → AreWaiting shape after next
 waits_more shape now next e at after n t is = record {
@@ -217,11 +198,15 @@ draining_more place x now next before mid after base_held held_mid held e d t sa
 
 -- ---- what a put asks for
 
-pub fits_at : (places : List Place) (place : ℕ) (shape : Shape) (s : Sample) → slice_get (map (λ (x : Place). x.shape) places) place ≡ Some shape → FitsShape shape s → (x : Place) → slice_get places place ≡ Some x → FitsShape x.shape s
-fits_at places place shape s is fits x there =
-    let e = slice_get-map (λ (y : Place). y.shape) places place in
-    let same : shape ≡ x.shape = cc in
-    subst (λ (y : Shape). FitsShape y s) same fits
+-- the writer takes the oldest entry
+pub taken_at : {S : Type 0} (place : ℕ) (own : Shape) (x now : InletView S) (before after : DeskState) (base_held held : Option (List ℕ)) → Draining place x now before after base_held held
+    → slice_get (shapes_of before) place ≡ Some own → now.ring.pushes ≤ 2 ^ 40 → (e : RingEntry Sample) → slice_get now.ring.queue 0 ≡ Some e → IsTakenAt after place own e
+taken_at place own x now before after base_held held d is_own few e oldest =
+    let n = comes_next d.shape (next_at after place) now e d.waits oldest in
+    let here = ap (λ (l : List Shape). slice_get l place) d.shapes ∙ is_own in
+    let same : d.shape ≡ own = let is = d.is_shape in cc in
+    let fits : IsFitting own e.value = subst (λ (s : Shape). IsFitting s e.value) same n.fits in
+    (omega (arith, n.high, few), n.low, here, fits.0, fits.1)
 
 pub still_within : (places first : List Place) (place : ℕ) → map (λ (x : Place). x.shape) places ≡ map (λ (x : Place). x.shape) first → place < length first → place < length places
 still_within places first place same lt =
@@ -230,38 +215,24 @@ still_within places first place same lt =
 
 -- ---- where a put fails
 
--- a front of a recording's file is held
-pub cut_put : {S : Type 0} (place position : ℕ) (s : Sample) (x now : InletView S) (before mid : DeskState) (base_held held_mid held : Option (List ℕ)) (r : Result (Unit {0}) WriterFault)
+pub cut_one : {S : Type 0} (place : ℕ) (x now : InletView S) (before mid : DeskState) (base_held held_mid held : Option (List ℕ)) (r : Result Bool WriterFault) (e : WriterFault) → r ≡ Err e
     → Draining place x now before mid base_held held_mid
-    → ((streams : List StreamDoc) (base : Option (List ℕ)) (batches : List Batch) (current : Option Batch) → StandsFor streams base held_mid mid batches current → r ≡ Err fault.WriteFault
-    → IsCut streams base held (closed batches (Some (with_entry place current position s))))
-    → (r ≡ Err fault.Memory → held ≡ held_mid)
-    → (streams : List StreamDoc) (base : Option (List ℕ)) (batches : List Batch) → StandsFor streams base base_held before batches None → OnErr r ((some : List Batch) × IsCut streams base held some)
-cut_put place position s x now before mid base_held held_mid held (Ok v) d cut memory streams base batches st = tt
-cut_put place position s x now before mid base_held held_mid held (Err fault.WriteFault) d cut memory streams base batches st =
-    (closed batches (Some (with_entry place (open_of place d.put) position s)), cut streams base batches (open_of place d.put) (d.stands streams base batches st) refl)
-cut_put place position s x now before mid base_held held_mid held (Err fault.Memory) d cut memory streams base batches st =
-    let P : Option (List ℕ) → Type 0 = λ h. IsCut streams base h (closed batches (open_of place d.put)) in
-    (closed batches (open_of place d.put), subst P (sym (memory refl)) (stands_cut streams base held_mid mid batches (open_of place d.put) (d.stands streams base batches st)))
+    → ((streams : List StreamDoc) (base : Option (List ℕ)) (batches : List Batch) (current : Option Batch) → StandsFor streams base held_mid mid batches current → OnErr r ((some : List Batch) × IsCut streams base held some))
+    → (streams : List StreamDoc) (base : Option (List ℕ)) (batches : List Batch) → StandsFor streams base base_held before batches None → (some : List Batch) × IsCut streams base held some
+cut_one place x now before mid base_held held_mid held r e is d cut streams base batches st =
+    let P : Result Bool WriterFault → Type 0 = λ o. OnErr o ((some : List Batch) × IsCut streams base held some) in
+    subst P is (cut streams base batches (open_of place d.put) (d.stands streams base batches st))
 
 -- ---- the whole pass
 
--- nothing was there to take
-pub record IsNoTake (old new : Lone Sample) : Type 0 where
-  pub oldest : slice_get old.queue 0 ≡ None
-  pub queue : new.queue ≡ drop 1 old.queue
-  pub pushes : new.pushes ≡ old.pushes
-  pub capacity : new.capacity ≡ old.capacity
-  pub steps : (a : RingState Sample) → RingStandsFor old a → (b : RingState Sample) × RingRun old.capacity a (take_events old.queue) b × RingStandsFor new b
-
-pub all_put : {S : Type 0} (place : ℕ) (x now : InletView S) (before after : DeskState) (base_held held : Option (List ℕ)) (d : Draining place x now before after base_held held) → slice_get now.ring.queue 0 ≡ None
+pub all_put : {S : Type 0} (place : ℕ) (x now : InletView S) (before after : DeskState) (base_held held : Option (List ℕ)) (d : Draining place x now before after base_held held) → now.ring.queue ≡ []
     → d.put ≡ map ring_entry x.ring.queue
 all_put place x now before after base_held held d none =
-    sym (append-nil d.put) ∙ ap (λ (l : List (RingEntry Sample)). d.put ++ map ring_entry l) (sym (nil_of now.ring.queue none)) ∙ sym d.parts
+    sym (append-nil d.put) ∙ ap (λ (l : List (RingEntry Sample)). d.put ++ map ring_entry l) (sym none) ∙ sym d.parts
 
 -- the batch is closed
 pub closed_so : {S : Type 0} (place : ℕ) (x now : InletView S) (before after last : DeskState) (base_held held_mid held : Option (List ℕ)) (r : Result (Unit {0}) WriterFault)
-    → Draining place x now before after base_held held_mid → slice_get now.ring.queue 0 ≡ None
+    → Draining place x now before after base_held held_mid → now.ring.queue ≡ []
     → ((streams : List StreamDoc) (base : Option (List ℕ)) (batches : List Batch) (current : Option Batch) → StandsFor streams base held_mid after batches current → OnOk r (StandsFor streams base held last (closed batches current) None))
     → (streams : List StreamDoc) (base : Option (List ℕ)) (batches : List Batch) → StandsFor streams base base_held before batches None
     → OnOk r (StandsFor streams base held last (batches ++ batch_of place (map ring_entry x.ring.queue)) None)
@@ -278,24 +249,19 @@ cut_so place x now before after base_held held_mid held (Ok v) d cuts streams ba
 cut_so place x now before after base_held held_mid held (Err e) d cuts streams base batches st =
     (closed batches (open_of place d.put), cuts streams base batches (open_of place d.put) (d.stands streams base batches st))
 
-pub drained_all : {S : Type 0} (place : ℕ) (x now next : InletView S) (before after : DeskState) (base_held held : Option (List ℕ)) → Draining place x now before after base_held held → IsNoTake now.ring next.ring → SameBut now next
-    → IsDrained x next
-drained_all place x now next before after base_held held d t same =
-    let empty : now.ring.queue ≡ [] = nil_of now.ring.queue t.oldest in
-    record {
-      id = same.id ∙ d.same.id;
-      source = same.source ∙ d.same.source;
-      inlet = same.inlet ∙ d.same.inlet;
-      end = same.end ∙ d.same.end;
-      drops = same.drops ∙ d.same.drops;
-      queue = t.queue ∙ ap (drop 1) empty;
-      pushes = t.pushes ∙ d.same.pushes;
-      capacity = t.capacity ∙ d.same.capacity;
-      states = λ s st.
-          let k = d.states s st in
-          let one = t.steps k.0 k.1 in
-          let P : List (RingEntry Sample) → Type 0 = λ l. RingRun now.ring.capacity k.0 (take_events l) one.0 in
-          let stays : one.0 ≡ k.0 = subst P empty one.1 in
-          let taken : k.0.taken ≡ s.taken ++ x.ring.queue = sym (append-nil k.0.taken) ∙ ap (λ (l : List (RingEntry Sample)). k.0.taken ++ l) (sym empty) ∙ k.2.taken in
-          (one.0, one.2, ap (λ (b : RingState Sample). b.puts) stays ∙ k.2.puts, ap (λ (b : RingState Sample). b.taken) stays ∙ taken, ap (λ (b : RingState Sample). b.dropped) stays ∙ k.2.dropped);
-    }
+pub drained_all : {S : Type 0} (place : ℕ) (x now next : InletView S) (before after : DeskState) (base_held held : Option (List ℕ)) → Draining place x now before after base_held held → now.ring.queue ≡ [] → next.ring ≡ now.ring
+    → SameBut now next → IsDrained x next
+drained_all place x now next before after base_held held d empty stays same = record {
+  id = same.id ∙ d.same.id;
+  source = same.source ∙ d.same.source;
+  inlet = same.inlet ∙ d.same.inlet;
+  end = same.end ∙ d.same.end;
+  drops = same.drops ∙ d.same.drops;
+  queue = ap (λ (r : Lone Sample). r.queue) stays ∙ empty;
+  pushes = same.pushes ∙ d.same.pushes;
+  capacity = same.capacity ∙ d.same.capacity;
+  states = λ s st.
+      let k = d.states s st in
+      let taken : k.0.taken ≡ s.taken ++ x.ring.queue = sym (append-nil k.0.taken) ∙ ap (λ (l : List (RingEntry Sample)). k.0.taken ++ l) (sym empty) ∙ k.2.taken in
+      (k.0, subst (λ (r : Lone Sample). RingStandsFor r k.0) (sym stays) k.1, k.2.puts, taken, k.2.dropped);
+}

@@ -17,26 +17,20 @@ use Rattle.inlet_model.specs.Inlet.{feed_kind}
 use Rattle.feed_samples.specs.Inlet.{InletState, outlook}
 use Rattle.ring_model.specs.declared.entry.Entry.{Entry as RingEntry}
 use Rattle.ring_model.specs.Ring.{RingState, RingRun, Put, Drop}
-use Rattle.inlet_ring.specs.Lone.{Lone, StandsFor, is_full, with_room, push_events}
+use Rattle.inlet_ring.specs.Lone.{Lone, StandsFor, is_full, with_room}
 use Rattle.recording_model.specs.Batch.{Entry, entries_from}
 use Rattle.record_writer.proofs.Layouts.{entries_more}
 use Rattle.turns_laws.specs.Slabs.{last_of}
 use Rattle.turns_laws.proofs.Rings.{push_room, push_full}
 use Rattle.record_run.specs.Rings.{ring_entry}
+use Rattle.feed_samples.specs.declared.step.FeedStep.{FeedStep}
+use Rattle.feed_samples.specs.declared.step.FeedStep.TheVariants as step
+use Rattle.feed_samples.specs.Inlet.{FitsGiven, got, received_by}
+use Rattle.record_run.specs.declared.ring.Given.TheVariants as given
+use Rattle.record_run.specs.FeedRings.{IsPush, IsPut, dropped_by}
 use Rattle.record_run.specs.Inlets.{InletView, IsFitting, HasGiven, IsKept, IsFilled}
 
 -- ---- the ring
-
--- how many entries the next push drops
-abbrev pub dropped_by : Lone Sample → ℕ
-dropped_by ring = if is_full ring then 1 else 0
-
--- a push of a sample
-pub record IsPush (old new : Lone Sample) (s : Sample) : Type 0 where
-  pub queue : new.queue ≡ with_room old ++ record { position = old.pushes; value = s } ∷ []
-  pub pushes : new.pushes ≡ old.pushes + 1
-  pub capacity : new.capacity ≡ old.capacity
-  pub steps : (a : RingState Sample) → StandsFor old a → (b : RingState Sample) × RingRun old.capacity a (push_events old s) b × StandsFor new b
 
 -- what a ring made of more samples
 pub record HasPut (a b : RingState Sample) (more : List Sample) (drops : ℕ) : Type 0 where
@@ -217,6 +211,31 @@ filling_more left_of faults_of mark_of x now next n s some f o =
             omega (arith, one.2.dropped, k.4, o.drops),
           );
     }
+
+-- ---- an answer of the reader, in the ring
+
+pub record GivesOne (shape : Shape) (old new : Lone Sample) (inlet next : InletState) (left left' : Option (List ℕ)) (drops : ℕ) : Type 0 where
+  pub sample : Sample
+  pub push : IsPush old new sample
+  pub drops_is : drops ≡ dropped_by old
+  pub answer : Answered feed_kind (outlook inlet) (outlook next) left left' (item sample)
+  pub fits : IsFitting shape sample
+  pub received : next.received ≡ inlet.received + 1
+
+pub gives_one : (shape : Shape) (old new : Lone Sample) (inlet next : InletState) (left left' : Option (List ℕ)) (drops : ℕ) (s : FeedStep) → IsPut old new s (given.Sample drops)
+    → Answered feed_kind (outlook inlet) (outlook next) left left' (got s) → FitsGiven shape s → next.received ≡ received_by s inlet.received → GivesOne shape old new inlet next left left' drops
+gives_one shape old new inlet next left left' drops (step.Sample s) put answer fits received =
+    record { sample = s; push = put.0; drops_is = put.1; answer = answer; fits = fits; received = received }
+gives_one shape old new inlet next left left' drops (step.End e) put answer fits received = absurd put
+gives_one shape old new inlet next left left' drops step.Memory put answer fits received = absurd put
+
+pub gives_end : (shape : Shape) (old new : Lone Sample) (inlet next : InletState) (left left' : Option (List ℕ)) (e : FeedEnd) (s : FeedStep) → IsPut old new s (given.End e)
+    → Answered feed_kind (outlook inlet) (outlook next) left left' (got s) → next.received ≡ received_by s inlet.received
+    → (new ≡ old) × Answered feed_kind (outlook inlet) (outlook next) left left' (end e) × (next.received ≡ inlet.received)
+gives_end shape old new inlet next left left' e (step.Sample s) put answer received = absurd put
+gives_end shape old new inlet next left left' e (step.End f) put answer received =
+    (put.1, subst (λ (x : FeedEnd). Answered feed_kind (outlook inlet) (outlook next) left left' (end x)) put.0 answer, received)
+gives_end shape old new inlet next left left' e step.Memory put answer received = absurd put
 
 -- ---- the whole pass
 

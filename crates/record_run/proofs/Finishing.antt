@@ -163,6 +163,15 @@ module _ {S M : Type 0} (left_of : S → Option (List ℕ)) (faults_of : S → �
   fed_lists (s ∷ streams) (d ∷ feeds) (l ∷ lists) [] a b c = absurd (omega (arith, c))
   fed_lists (s ∷ streams) (d ∷ feeds) (l ∷ lists) (x ∷ xs) a b c = ap (λ (t : List (List Sample)). l ∷ t) (fed_lists streams feeds lists xs (omega (arith, a)) (omega (arith, b)) (omega (arith, c)))
 
+  fed_lasts : (streams : List StreamDoc) (feeds : List (FeedSource S)) (lists : List (List Sample)) (xs : List (InletView S)) → length feeds ≡ length streams → length lists ≡ length streams → length xs ≡ length streams
+      → map (λ (y : Fed S). y.last) (all_fed streams feeds lists xs) ≡ map (λ (x : InletView S). x.source) xs
+  fed_lasts [] feeds lists [] a b c = refl
+  fed_lasts [] feeds lists (x ∷ xs) a b c = absurd (omega (arith, c))
+  fed_lasts (s ∷ streams) [] lists xs a b c = absurd (omega (arith, a))
+  fed_lasts (s ∷ streams) (d ∷ feeds) [] xs a b c = absurd (omega (arith, b))
+  fed_lasts (s ∷ streams) (d ∷ feeds) (l ∷ lists) [] a b c = absurd (omega (arith, c))
+  fed_lasts (s ∷ streams) (d ∷ feeds) (l ∷ lists) (x ∷ xs) a b c = ap (λ (t : List S). x.source ∷ t) (fed_lasts streams feeds lists xs (omega (arith, a)) (omega (arith, b)) (omega (arith, c)))
+
   -- which feed stands at a place
   fed_at : (streams : List StreamDoc) (feeds : List (FeedSource S)) (lists : List (List Sample)) (xs : List (InletView S)) (p : ℕ) (y : Fed S) → slice_get (all_fed streams feeds lists xs) p ≡ Some y
       → (s : StreamDoc) × (d : FeedSource S) × (l : List Sample) × (x : InletView S) × (slice_get streams p ≡ Some s) × (slice_get feeds p ≡ Some d) × (slice_get lists p ≡ Some l) × (slice_get xs p ≡ Some x)
@@ -201,7 +210,7 @@ module _ {S M : Type 0} (left_of : S → Option (List ℕ)) (faults_of : S → �
   -- the file was finished
   pub recorded_is : (ring batch turns : ℕ) (streams : List StreamDoc) (feeds : List (FeedSource S)) (base held now : Option (List ℕ)) (desk : DeskState) (lists : List (List Sample)) (xs : List (InletView S)) (w : Written)
       → 1 ≤ ring → 1 ≤ batch → AreTurned left_of faults_of mark_of ring batch turns streams feeds base held desk lists xs → HaveEnded xs → IsFinished streams base now (first_turns ring batch lists turns) w
-      → IsRecorded left_of faults_of mark_of ring batch streams feeds base now (map report_in xs) w.bytes w.chunks
+      → IsRecorded left_of faults_of mark_of ring batch streams feeds base now (map report_in xs) w.bytes w.chunks (map (λ (x : InletView S). x.source) xs)
   recorded_is ring batch turns streams feeds base held now desk lists xs w low some k over f =
       let fed = all_fed streams feeds lists xs in
       let short = list_short ring batch turns streams feeds lists xs k.feed_count k.list_count k.inlet_count (λ p s d l x i j m n. (k.each p s d l x i j m n).short) in
@@ -229,4 +238,5 @@ module _ {S M : Type 0} (left_of : S → Option (List ℕ)) (faults_of : S → �
             report_is left_of faults_of mark_of ring batch turns p streams lists f.chunks s d l x (end_or x.end) low some (k.each p s d l x i j m n) (ended p x n) recording all_turns i m);
         size = f.size;
         chunk_count = f.count;
+        left = sym (fed_lasts streams feeds lists xs k.feed_count k.list_count k.inlet_count);
       }

@@ -6,3 +6,6 @@ pub mod Starting
 pub mod Finishing
 pub mod Filling
 pub mod Draining
+pub mod Blocks
+pub mod Shapes
+pub mod Handing

@@ -6,7 +6,7 @@ use Rattle.std.proofs.Math.Nat.{mul-le-mul_left}
 use Rattle.reading_model.specs.Outlook.{How}
 use Rattle.piece_reader.proofs.Ending.{begun_fresh}
 use Rattle.xdf_model.specs.declared.types.Shape.{Shape}
-use Rattle.xdf_model.specs.Sample.{Sample}
+use Rattle.xdf_model.specs.Sample.{Sample, size_of}
 use Rattle.feed_samples.specs.Inlet.{outlook}
 use Rattle.ring_model.specs.Ring.{new_ring}
 use Rattle.recording_model.specs.declared.stream.StreamDoc.{StreamDoc}
@@ -19,8 +19,8 @@ use Rattle.turns_model.specs.Turns.{first_turns}
 use Rattle.record_run.specs.declared.feed.FeedSource.{FeedSource}
 use Rattle.record_run.specs.Run.{byte_limit, feed_of}
 use Rattle.record_run.specs.Outcomes.{IsCutOff}
-use Rattle.record_run.specs.Inlets.{InletView, HasGiven}
-use Rattle.record_run.specs.Recorders.{RecorderView, IsNewInlet, IsOpenFor}
+use Rattle.record_run.specs.Inlets.{InletView, HasGiven, AreNumeric}
+use Rattle.record_run.specs.Recorders.{AreNumbers, RecorderView, IsNewInlet, IsOpenFor}
 use Rattle.record_run.specs.Turning.{IsTurned, AreTurned}
 use Rattle.record_run.proofs.Stepping.{item_at}
 
@@ -107,6 +107,11 @@ module _ {S M : Type 0} (left_of : S → Option (List ℕ)) (faults_of : S → �
 
     pub queues_empty : (p : ℕ) (x : InletView S) → slice_get xs p ≡ Some x → x.ring.queue ≡ []
     queues_empty p x e = (turned_at p x e).6.queue
+
+    pub numeric_turned : AreNumbers streams → AreNumeric xs
+    numeric_turned numbers p x e =
+        let t = turned_at p x e in
+        subst (λ (shape : Shape). 1 ≤ size_of shape.format) (sym t.6.shape) (numbers p t.0 t.3)
 
     -- no feed goes on for so many turns
     pub not_endless : (p : ℕ) (x : InletView S) → slice_get xs p ≡ Some x → x.end ≡ None → 1 ≤ batch → byte_limit + 1 ≤ turns → ⊥

@@ -4,7 +4,7 @@ use Rattle.std.specs.List.{AllByRecursion}
 use Rattle.std.proofs.lemmas.Option.{slice_get_within}
 use Rattle.reading_model.specs.Read.{Reader}
 use Rattle.xdf_model.specs.declared.types.Shape.{Shape}
-use Rattle.xdf_model.specs.Sample.{Sample}
+use Rattle.xdf_model.specs.Sample.{Sample, size_of}
 use Rattle.inlet_model.specs.declared.end.FeedEnd.{FeedEnd}
 use Rattle.recording_model.specs.declared.stream.StreamDoc.{StreamDoc}
 use Rattle.recording_model.specs.Batch.{Entry, Batch, entries_from}
@@ -17,7 +17,7 @@ use Rattle.record_run.specs.declared.feed.FeedSource.{FeedSource}
 use Rattle.record_run.specs.Run.{feed_of}
 use Rattle.record_run.specs.Rings.{ring_entry}
 use Rattle.record_run.specs.Kept.{kept_up_to}
-use Rattle.record_run.specs.Inlets.{InletView, HasGiven, IsFitting, IsFilled, IsDrained, AreWaiting, AreWaitingAll, waiting_batches}
+use Rattle.record_run.specs.Inlets.{InletView, HasGiven, IsFitting, IsFilled, IsDrained, AreNumeric, AreWaiting, AreWaitingAll, waiting_batches}
 use Rattle.record_run.specs.Turning.{IsTurned, AreTurned}
 use Rattle.record_run.proofs.Slabs.{HasGrown, kept_here, kept_grows, waits, behind_grows}
 use Rattle.record_run.proofs.Beside.{AreGrown, turns_same, waiting_is_turn}
@@ -166,11 +166,19 @@ module _ {S M : Type 0} (left_of : S → Option (List ℕ)) (faults_of : S → �
         let d = item_at feeds p (omega (arith, within, count, k.inlet_count, k.feed_count)) in
         let l = item_at lists p (omega (arith, within, count, k.inlet_count, k.list_count)) in
         let x = item_at xs p (omega (arith, within, count)) in
-        let turned = k.each p s.0 d.0 l.0 x.0 s.1 d.1 l.1 x.1 in (
-          s.0.shape,
-          ap (λ (shapes : List Shape). slice_get shapes p) k.shapes ∙ map_at (λ (t : StreamDoc). t.shape) streams p s.0 s.1,
-          waiting left_of faults_of mark_of ring batch turns s.0 d.0 l.0 x.0 y y low some turned (f p x.0 y x.1 e) (next_at desk p) (k.next p x.0 x.1),
+        let turned = k.each p s.0 d.0 l.0 x.0 s.1 d.1 l.1 x.1 in
+        let filled = f p x.0 y x.1 e in
+        let same : s.0.shape ≡ y.inlet.shape = sym (filled.shape ∙ turned.shape) in (
+          ap (λ (shapes : List Shape). slice_get shapes p) k.shapes ∙ map_at (λ (t : StreamDoc). t.shape) streams p s.0 s.1 ∙ ap Some same,
+          subst (λ (shape : Shape). AreWaiting shape (next_at desk p) y) same
+              (waiting left_of faults_of mark_of ring batch turns s.0 d.0 l.0 x.0 y y low some turned filled (next_at desk p) (k.next p x.0 x.1)),
         )
+
+    -- feeds of numbers stay feeds of numbers
+    pub numeric_filled : AreNumeric xs → AreNumeric ys
+    numeric_filled numeric p y e =
+        let x = item_at xs p (omega (arith, slice_get_within ys p y e, count)) in
+        subst (λ (shape : Shape). 1 ≤ size_of shape.format) (sym (f p x.0 y x.1 e).shape) (numeric p x.0 x.1)
 
     -- what stands at a place
     new_at : (p : ℕ) (new : List Sample) → slice_get new_lists p ≡ Some new → (l : List Sample) × (x : InletView S) × (y : InletView S) × (slice_get lists p ≡ Some l) × (slice_get xs p ≡ Some x)

@@ -8,7 +8,7 @@ use Rattle.reading_model.specs.Read.{Reader, EndsSo}
 use Rattle.piece_reader.specs.Steps.{Begun}
 use Rattle.piece_reader.proofs.Ending.{fresh}
 use Rattle.xdf_model.specs.declared.types.Shape.{Shape}
-use Rattle.xdf_model.specs.Sample.{Sample, FitsShape}
+use Rattle.xdf_model.specs.Sample.{Sample, FitsShape, size_of}
 use Rattle.feed_model.specs.Feed.{text_size, text_limit}
 use Rattle.inlet_model.specs.declared.end.FeedEnd.{FeedEnd}
 use Rattle.inlet_model.specs.Inlet.{feed_kind}
@@ -98,7 +98,11 @@ pub record AreWaiting {S : Type 0} (shape : Shape) (next : ℕ) (x : InletView S
 -- so it is of every inlet, each at its place
 abbrev pub AreWaitingAll : {S : Type 0} → DeskState → List (InletView S) → Type 0
 AreWaitingAll {S = S} d inlets = (p : ℕ) (x : InletView S) → slice_get inlets p ≡ Some x
-    → (shape : Shape) × (slice_get (shapes_of d) p ≡ Some shape) × AreWaiting shape (next_at d p) x
+    → (slice_get (shapes_of d) p ≡ Some x.inlet.shape) × AreWaiting x.inlet.shape (next_at d p) x
+
+-- every feed is one of numbers
+abbrev pub AreNumeric : {S : Type 0} → List (InletView S) → Type 0
+AreNumeric {S = S} inlets = (p : ℕ) (x : InletView S) → slice_get inlets p ≡ Some x → 1 ≤ size_of x.inlet.shape.format
 
 -- the batches of what waits in the rings of the inlets from a place on
 abbrev pub waiting_batches : {S : Type 0} → ℕ → List (InletView S) → List Batch

@@ -1,5 +1,6 @@
 pub mod Cost
 pub mod Rings
+pub mod FeedRings
 pub mod Run
 pub mod Kept
 pub mod Inlets

@@ -14,8 +14,8 @@ use Rattle.record_run.specs.declared.outcome.Outcome.TheVariants.{Done, WriteFau
 use Rattle.record_run.specs.declared.report.FeedReport.{FeedReport}
 use Rattle.record_run.specs.Run.{Fed, IsRun, report_of}
 
--- the file of the recording of the feeds by turns was written, and what is reported is so
-pub record IsRecorded {S M : Type 0} (left_of : S → Option (List ℕ)) (faults_of : S → ℕ) (mark_of : S → M) (ring batch : ℕ) (streams : List StreamDoc) (feeds : List (FeedSource S)) (before now : Option (List ℕ)) (reports : List FeedReport) (bytes count : ℕ) : Type 0 where
+-- the file of the recording of the feeds by turns was written, what is reported is so, and these are the sources as the reading left them
+pub record IsRecorded {S M : Type 0} (left_of : S → Option (List ℕ)) (faults_of : S → ℕ) (mark_of : S → M) (ring batch : ℕ) (streams : List StreamDoc) (feeds : List (FeedSource S)) (before now : Option (List ℕ)) (reports : List FeedReport) (bytes count : ℕ) (sources : List S) : Type 0 where
   pub fed : List (Fed S)
   pub chunks : List Chunk
   pub run : IsRun left_of faults_of mark_of ring batch streams feeds fed chunks
@@ -23,9 +23,10 @@ pub record IsRecorded {S M : Type 0} (left_of : S → Option (List ℕ)) (faults
   pub told : reports ≡ map (report_of chunks) fed
   pub size : bytes ≡ capped (length (least_file_text chunks))
   pub chunk_count : count ≡ capped (length chunks)
+  pub left : sources ≡ map (λ x. x.last) fed
 
-abbrev pub IsDone : {S M : Type 0} → (S → Option (List ℕ)) → (S → ℕ) → (S → M) → ℕ → ℕ → List StreamDoc → List (FeedSource S) → Option (List ℕ) → Option (List ℕ) → Outcome → Type 0
-IsDone left_of faults_of mark_of ring batch streams feeds before now (Done reports bytes count) = IsRecorded left_of faults_of mark_of ring batch streams feeds before now reports bytes count
+abbrev pub IsDone : {S M : Type 0} → (S → Option (List ℕ)) → (S → ℕ) → (S → M) → ℕ → ℕ → List StreamDoc → List (FeedSource S) → Option (List ℕ) → Option (List ℕ) → Outcome S → Type 0
+IsDone left_of faults_of mark_of ring batch streams feeds before now (Done reports bytes count sources) = IsRecorded left_of faults_of mark_of ring batch streams feeds before now reports bytes count sources
 IsDone left_of faults_of mark_of ring batch streams feeds before now WriteFault = ⊤
 IsDone left_of faults_of mark_of ring batch streams feeds before now Memory = ⊤
 
@@ -36,7 +37,7 @@ pub record IsCutOff (streams : List StreamDoc) (before now : Option (List ℕ)) 
   pub recording : IsRecording streams batches chunks
   pub front : AppendsFront before now (least_file_text chunks)
 
-abbrev pub IsStopped : List StreamDoc → Option (List ℕ) → Option (List ℕ) → Outcome → Type 0
-IsStopped streams before now (Done reports bytes count) = ⊤
+abbrev pub IsStopped : {S : Type 0} → List StreamDoc → Option (List ℕ) → Option (List ℕ) → Outcome S → Type 0
+IsStopped streams before now (Done reports bytes count sources) = ⊤
 IsStopped streams before now WriteFault = IsCutOff streams before now
 IsStopped streams before now Memory = IsCutOff streams before now

@@ -1,6 +1,7 @@
 -- A recorder that is open: what it was made of, before anything is read.
 use Rattle.std.specs.Prelude.{◌≡◌, ℕ, ◌≤◌, false, List, [], length, map, slice_get, None, Some}
 use Rattle.reading_model.specs.Outlook.{How}
+use Rattle.xdf_model.specs.Sample.{size_of}
 use Rattle.feed_samples.specs.Inlet.{outlook}
 use Rattle.ring_model.specs.Ring.{new_ring}
 use Rattle.inlet_ring.specs.Lone.{StandsFor}
@@ -50,3 +51,7 @@ pub record IsOpen {S : Type 0} (r : RecorderView S) : Type 0 where
   pub streams : List StreamDoc
   pub feeds : List (FeedSource S)
   pub is : IsOpenFor ring batch streams feeds r
+
+-- every stream is one of numbers
+abbrev pub AreNumbers : List StreamDoc → Type 0
+AreNumbers streams = (p : ℕ) (s : StreamDoc) → slice_get streams p ≡ Some s → 1 ≤ size_of s.shape.format

@@ -14,6 +14,8 @@ mod outcome;
 mod passes;
 mod recorder;
 mod report;
+mod ring;
+mod sources;
 #[cfg(test)]
 mod tests;
 mod turns;
@@ -25,3 +27,4 @@ pub use outcome::Outcome;
 pub use recorder::Recorder;
 pub use recording_model::StreamDoc;
 pub use report::{FeedReport, ReportList};
+pub use sources::SourceList;

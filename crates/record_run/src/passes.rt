@@ -6,18 +6,20 @@ ghost use Rattle.recording_model.specs.declared.stream.StreamDoc.{StreamDoc as S
 ghost use Rattle.recording_model.specs.Batch.{Batch};
 ghost use Rattle.record_writer.specs.Desk.{next_at, shapes_of};
 ghost use Rattle.record_writer.specs.Standing.{StandsFor, IsCut};
-ghost use Rattle.record_run.specs.Inlets.{InletView, IsFilled, IsDrained, AreWaitingAll, waiting_batches};
+ghost use Rattle.record_run.specs.Inlets.{InletView, IsFilled, IsDrained, AreNumeric, AreWaitingAll, waiting_batches};
 
 use crate::inlet::Inlet;
 use rec_base::{Memory, Sink, Source};
 use record_writer::{Writer, WriterFault};
 
-/// Each feed that hasn't ended puts up to `batch` samples into its ring.
+/// Each feed that hasn't ended puts up to `batch` samples into its ring. `Memory` comes for want of
+/// memory alone, and never where all feeds are of numbers.
 pub(crate) fn fill_all<S: Source>(inlets: &mut [Inlet<S>], batch: u64) -> Result<(), Memory>
     ensures count { OnOk result (length inlets.new ≡ length inlets.old) }
     ensures filled { ((p : ℕ) (x : InletView S) → slice_get inlets.old p ≡ Some x → x.ring.queue ≡ [])
         → OnOk result ((p : ℕ) (x y : InletView S) → slice_get inlets.old p ≡ Some x → slice_get inlets.new p ≡ Some y
         → IsFilled S.left S.faults S.mark batch x y) }
+    ensures memory { OnErr result (AreNumeric inlets.old → ⊥) }
 {
     for place in 0..inlets.len() {
         inlets[place].fill(batch)?;
@@ -25,7 +27,7 @@ pub(crate) fn fill_all<S: Source>(inlets: &mut [Inlet<S>], batch: u64) -> Result
     Ok(())
 }
 
-/// What waits in each ring is written as one batch.
+/// What waits in each ring is written as one batch. `Memory` comes as in `fill_all`.
 pub(crate) fn drain_all<S: Source, K: Sink>(
     inlets: &mut [Inlet<S>],
     writer: &mut Writer<'_, K>,
@@ -46,6 +48,7 @@ pub(crate) fn drain_all<S: Source, K: Sink>(
     ensures shapes { OnOk result (shapes_of writer.new.room.desk ≡ shapes_of writer.old.room.desk) }
     ensures closed { OnOk result (writer.new.room.desk.count ≡ 0) }
     ensures whole { OnOk result (writer.new.room.desk.broken ≡ false) }
+    ensures memory { IsErrOf result WriterFault.Memory → AreNumeric inlets.old → ⊥ }
     ensures cause { IsErrOf result WriterFault.WriteFault → Rose (K.write_faults writer.old.sink.now) (K.write_faults writer.new.sink.now) }
     ensures later { K.write_faults writer.old.sink.now ≤ K.write_faults writer.new.sink.now }
     ensures rest { K.rest writer.new.sink.now ≡ K.rest writer.old.sink.now }

@@ -1,19 +1,20 @@
 //! A recorder: the feeds of a recording with all that is needed to record them.
 
-ghost use Rattle.std.specs.Prelude.{◌≡◌, ◌≤◌, ℕ, List, length, slice_get, Some, IfOk};
+ghost use Rattle.std.specs.Prelude.{◌≡◌, ◌≢◌, ◌≤◌, ◌<◌, ◌++◌, ◌∷◌, [], ℕ, List, length, map, slice_get, vec_capacity, Some, IfOk};
 ghost use Rattle.std.specs.List.{AllByRecursion};
 ghost use Rattle.rec_base.specs.Causes.{Rose};
 ghost use Rattle.recording_model.specs.declared.stream.StreamDoc.{StreamDoc as StreamValue};
 ghost use Rattle.recording_model.specs.Recording.{AreStreams};
 ghost use Rattle.record_run.specs.declared.feed.FeedSource.{FeedSource as FeedValue};
 ghost use Rattle.record_run.specs.Inlets.{InletView};
-ghost use Rattle.record_run.specs.Recorders.{IsNewInlet, IsOpenFor};
+ghost use Rattle.record_run.specs.Recorders.{AreNumbers, IsNewInlet, IsOpenFor};
 ghost use Rattle.record_run.specs.Outcomes.{IsDone, IsStopped};
 
 use crate::feed::FeedSource;
 use crate::inlet::Inlet;
 use crate::outcome::Outcome;
 use crate::report::FeedReport;
+use crate::sources::SourceList;
 use crate::turns::record;
 use rec_base::{Memory, Sink, Source};
 use record_writer::{WriterFault, WriterRoom};
@@ -26,8 +27,9 @@ use std::marker::Model;
 pub struct Recorder<S: Source> {
     inlets: Vec<Inlet<S>>,
     room: WriterRoom,
-    // room for what becomes of the feeds
+    // room for what becomes of the feeds, and for their sources
     reports: Vec<FeedReport>,
+    sources: Vec<S>,
     batch: u64,
 }
 
@@ -41,18 +43,22 @@ impl<S: Source> Model for Recorder<S> {
     ghost use Rattle.std.specs.Prelude.{◌≡◌, ◌≤◌, [], length, vec_capacity};
 
     ghost invariant = { λ r. IsOpen (record { inlets = r.inlets.items; desk = r.room.desk; batch = r.batch })
-        × (r.reports.items ≡ []) × (length r.inlets.items ≤ vec_capacity r.reports) };
+        × (r.reports.items ≡ []) × (length r.inlets.items ≤ vec_capacity r.reports)
+        × (r.sources.items ≡ []) × (length r.inlets.items ≤ vec_capacity r.sources) };
 }
 
 // An inlet for each feed.
 fn new_inlets<S: Source + Drop>(
     alloc: Global,
     ring: usize,
+    waiting: usize,
     streams: &[StreamDoc],
     feeds: Vec<FeedSource<S>>,
 ) -> Result<Vec<Inlet<S>>, Memory>
     requires low { 1 ≤ ring }
     requires high { ring ≤ 1_048_576 }
+    requires waiting { waiting ≤ 1_048_576 }
+    requires are { AreStreams streams.now }
     requires feeds { length feeds.items ≡ length streams.now }
     ensures count { IfOk result (λ inlets. length inlets.items ≡ length streams.now) }
     ensures each { IfOk result (λ inlets. (place : ℕ) (stream : StreamValue) (feed : FeedValue S) (x : InletView S) → slice_get streams.now place ≡ Some stream
@@ -64,17 +70,46 @@ fn new_inlets<S: Source + Drop>(
         // There are few feeds, so moving those behind it costs nothing that counts.
         let feed = feeds.remove(0);
         let stream = &streams[place];
-        let inlet = Inlet::new(alloc, stream.id, ring, stream.shape, feed)?;
+        let inlet = Inlet::new(alloc, stream.id, ring, waiting, stream.shape, feed)?;
         inlets.push(inlet)?;
     }
     Ok(inlets)
+}
+
+// Appends a source where there is room for it.
+fn push_source<S>(sources: &mut Vec<S>, source: S)
+    requires { length sources.old.items < vec_capacity sources.old }
+    ensures items { sources.new.items ≡ sources.old.items ++ source ∷ [] }
+    ensures room { vec_capacity sources.old ≤ vec_capacity sources.new }
+{
+    match sources.push(source) {
+        Ok(()) => {}
+        Err(_) => unreachable!(),
+    }
+}
+
+// The sources of the inlets, into room that was made before.
+fn sources_of<S: Source + Drop>(inlets: Vec<Inlet<S>>, sources: Vec<S>) -> Vec<S>
+    requires empty { sources.items ≡ [] }
+    requires room { length inlets.items ≤ vec_capacity sources }
+    ensures { result.items ≡ map (λ x. x.source) inlets.items }
+{
+    let mut inlets = inlets;
+    let mut sources = sources;
+    let count = inlets.len();
+    for _ in 0..count {
+        // There are few inlets, so moving those behind it costs nothing that counts.
+        push_source(&mut sources, inlets.remove(0).into_source());
+    }
+    sources
 }
 
 impl<S: Source + Send + Drop> Recorder<S> {
     /// A recorder of these feeds, each as the stream at its place. `ring` is the most samples that wait
     /// in a feed's ring, 1 to 1,048,576, and `batch` the most that are read and written of a feed in a
     /// turn, 1 to 65,536. There are 1 to 64 streams, whose header documents have at most 1,048,576
-    /// bytes. All memory of the run but that of texts is taken here, and nothing is read.
+    /// bytes. All memory of the run but that of texts is taken here, `ring` blocks and two more for each
+    /// feed of numbers among it, and nothing is read.
     ///
     /// `Memory` comes for want of memory alone; the sources are then given up.
     pub fn open(
@@ -97,11 +132,15 @@ impl<S: Source + Send + Drop> Recorder<S> {
     {
         let room = WriterRoom::new(alloc, &streams)?;
         let reports = Vec::with_capacity(alloc, streams.len())?;
-        let inlets = new_inlets(alloc, ring as usize, &streams, feeds)?;
+        let sources = Vec::with_capacity(alloc, streams.len())?;
+        // A turn reads no more than a batch, and then takes all of it out of the ring.
+        let waiting = ring.min(batch) as usize;
+        let inlets = new_inlets(alloc, ring as usize, waiting, &streams, feeds)?;
         Ok(Recorder {
             inlets,
             room,
             reports,
+            sources,
             batch,
         })
     }
@@ -112,13 +151,15 @@ impl<S: Source + Send + Drop> Recorder<S> {
     /// finished. It returns always: each turn takes at least one sample or is the last.
     ///
     /// `Done` says what became of the feeds, and that the file is whole. `WriteFault` comes only where a
-    /// write of the sink failed in this call, `Memory` for want of memory alone; a front of a recording's
-    /// file went out then.
-    pub fn run_turns<K: Sink>(self, sink: &mut K) -> Outcome
+    /// write of the sink failed in this call, `Memory` for want of memory alone, and never where all feeds
+    /// are of numbers; a front of a recording's file went out then.
+    pub fn run_turns<K: Sink>(self, sink: &mut K) -> Outcome<S>
         ensures done { (ring batch : ℕ) (streams : List StreamValue) (feeds : List (FeedValue S)) → IsOpenFor ring batch streams feeds self
             → IsDone S.left S.faults S.mark ring batch streams feeds (K.held sink.old) (K.held sink.new) result }
         ensures stopped { (ring batch : ℕ) (streams : List StreamValue) (feeds : List (FeedValue S)) → IsOpenFor ring batch streams feeds self
             → IsStopped streams (K.held sink.old) (K.held sink.new) result }
+        ensures memory { (ring batch : ℕ) (streams : List StreamValue) (feeds : List (FeedValue S)) → IsOpenFor ring batch streams feeds self
+            → AreNumbers streams → result ≢ Outcome.Memory }
         ensures cause { result ≡ Outcome.WriteFault → Rose (K.write_faults sink.old) (K.write_faults sink.new) }
         ensures later { K.write_faults sink.old ≤ K.write_faults sink.new }
         ensures rest { K.rest sink.new ≡ K.rest sink.old }
@@ -127,6 +168,7 @@ impl<S: Source + Send + Drop> Recorder<S> {
             inlets,
             room,
             reports,
+            sources,
             batch,
         } = self;
         let mut inlets = inlets;
@@ -135,6 +177,7 @@ impl<S: Source + Send + Drop> Recorder<S> {
                 reports: recorded.reports,
                 bytes: recorded.bytes,
                 chunks: recorded.chunks,
+                sources: SourceList::from_vec(sources_of(inlets, sources)),
             },
             Err(WriterFault::WriteFault) => Outcome::WriteFault,
             Err(WriterFault::Memory) => Outcome::Memory,

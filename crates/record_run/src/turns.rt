@@ -7,7 +7,7 @@ ghost use Rattle.recording_model.specs.declared.stream.StreamDoc.{StreamDoc as S
 ghost use Rattle.record_run.specs.declared.feed.FeedSource.{FeedSource as FeedValue};
 ghost use Rattle.record_run.specs.Inlets.{InletView};
 ghost use Rattle.record_run.specs.Outcomes.{IsRecorded, IsCutOff};
-ghost use Rattle.record_run.specs.Recorders.{IsOpenFor, RecorderView};
+ghost use Rattle.record_run.specs.Recorders.{AreNumbers, IsOpenFor, RecorderView};
 ghost use Rattle.record_run.specs.Turning.{AreTurned, HaveEnded, report_in};
 
 use crate::inlet::Inlet;
@@ -49,6 +49,8 @@ pub(crate) fn take_turns<S: Source, K: Sink>(
     ensures cut { (ring : ℕ) (streams : List StreamValue) (feeds : List (FeedValue S)) → IsOpenFor ring batch streams feeds (record { inlets = inlets.old; desk = writer.old.room.desk; batch = batch })
         → OnErr result (IsCutOff streams (K.held writer.old.sink.now) (K.held writer.new.sink.now)) }
     ensures closed { OnOk result ((writer.new.room.desk.count ≡ 0) × (writer.new.room.desk.broken ≡ false)) }
+    ensures memory { (ring : ℕ) (streams : List StreamValue) (feeds : List (FeedValue S)) → IsOpenFor ring batch streams feeds (record { inlets = inlets.old; desk = writer.old.room.desk; batch = batch })
+        → AreNumbers streams → IsErrOf result WriterFault.Memory → ⊥ }
     ensures cause { IsErrOf result WriterFault.WriteFault → Rose (K.write_faults writer.old.sink.now) (K.write_faults writer.new.sink.now) }
     ensures later { K.write_faults writer.old.sink.now ≤ K.write_faults writer.new.sink.now }
     ensures rest { K.rest writer.new.sink.now ≡ K.rest writer.old.sink.now }
@@ -112,7 +114,7 @@ pub(crate) fn finish<S: Source, K: Sink>(
     requires room { length inlets.now ≤ vec_capacity reports }
     ensures done { (ring batch turns : ℕ) (streams : List StreamValue) (feeds : List (FeedValue S)) (base : Option (List ℕ)) (lists : List (List SampleValue)) → 1 ≤ ring → 1 ≤ batch
         → AreTurned S.left S.faults S.mark ring batch turns streams feeds base (K.held writer.entry.sink.now) writer.entry.room.desk lists inlets.now
-        → IfOk result (λ r. IsRecorded S.left S.faults S.mark ring batch streams feeds base (K.held writer.exit.0.now) r.reports r.bytes r.chunks) }
+        → IfOk result (λ r. IsRecorded S.left S.faults S.mark ring batch streams feeds base (K.held writer.exit.0.now) r.reports r.bytes r.chunks (map (λ x. x.source) inlets.now)) }
     ensures stopped { (ring batch turns : ℕ) (streams : List StreamValue) (feeds : List (FeedValue S)) (base : Option (List ℕ)) (lists : List (List SampleValue)) → 1 ≤ ring → 1 ≤ batch
         → AreTurned S.left S.faults S.mark ring batch turns streams feeds base (K.held writer.entry.sink.now) writer.entry.room.desk lists inlets.now
         → OnErr result (IsCutOff streams base (K.held writer.exit.0.now)) }
@@ -151,9 +153,11 @@ pub(crate) fn record<S: Source, K: Sink>(
     requires empty { reports.items ≡ [] }
     requires space { length inlets.old ≤ vec_capacity reports }
     ensures done { (ring : ℕ) (streams : List StreamValue) (feeds : List (FeedValue S)) → IsOpenFor ring batch streams feeds (record { inlets = inlets.old; desk = room.desk; batch = batch })
-        → IfOk result (λ r. IsRecorded S.left S.faults S.mark ring batch streams feeds (K.held sink.old) (K.held sink.new) r.reports r.bytes r.chunks) }
+        → IfOk result (λ r. IsRecorded S.left S.faults S.mark ring batch streams feeds (K.held sink.old) (K.held sink.new) r.reports r.bytes r.chunks (map (λ x. x.source) inlets.new)) }
     ensures stopped { (ring : ℕ) (streams : List StreamValue) (feeds : List (FeedValue S)) → IsOpenFor ring batch streams feeds (record { inlets = inlets.old; desk = room.desk; batch = batch })
         → OnErr result (IsCutOff streams (K.held sink.old) (K.held sink.new)) }
+    ensures memory { (ring : ℕ) (streams : List StreamValue) (feeds : List (FeedValue S)) → IsOpenFor ring batch streams feeds (record { inlets = inlets.old; desk = room.desk; batch = batch })
+        → AreNumbers streams → IsErrOf result WriterFault.Memory → ⊥ }
     ensures cause { IsErrOf result WriterFault.WriteFault → Rose (K.write_faults sink.old) (K.write_faults sink.new) }
     ensures later { K.write_faults sink.old ≤ K.write_faults sink.new }
     ensures rest { K.rest sink.new ≡ K.rest sink.old }

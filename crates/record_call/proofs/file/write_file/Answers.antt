@@ -1,4 +1,4 @@
-use Rattle.std.proofs.Common.{List, ℕ, [], subst, Option}
+use Rattle.std.proofs.Common.{◌≡◌, inl, inr, List, ℕ, [], subst, Option}
 use Rattle.std.proofs.lemmas.Result.{IfOk-weaker}
 use Rattle.rec_base.specs.Known.{Becomes}
 use Rattle.record_call.proofs.Records.{ready_are, ready_short, ready_some, ready_few, ready_feeds, file_written, cut_from}
@@ -40,3 +40,29 @@ returns-clause-not_written g c = λ e.
       (subst T c.in_ok-out.ensures.target w.1.0, subst H c.in_ok-out.ensures.held w.1.1),
       w.2,
     )
+
+pub returns-clause-numbers : goal.returns-clause-numbers
+returns-clause-numbers g c = λ e.
+    let o = c.in_ok-out in
+    let T : Option (List ℕ) → Type 0 = λ x. g.D.Dock.target c.record_turns.new.dock ≡ x in
+    let H : Option (List ℕ) → Type 0 = λ x. g.D.Sink.held c.record_turns.new.dock ≡ x in
+    elim (c.record_turns.ensures.numbers e) [
+      | inl k ↦ inl (subst T o.ensures.target k.0, subst H o.ensures.held k.1)
+      | inr k ↦ inr (record { out = o.field-0.out.now; plan = o.ensures.ready.plan; streams = o.field-0.streams.items; asked = o.ensures.ready.asked; texts = k })
+    ]
+
+pub returns-clause-memory : goal.returns-clause-memory
+returns-clause-memory g c = λ e.
+    let o = c.in_ok-out in
+    let T : Option (List ℕ) → Type 0 = λ x. g.D.Dock.target c.record_turns.new.dock ≡ x in
+    let H : Option (List ℕ) → Type 0 = λ x. g.D.Sink.held c.record_turns.new.dock ≡ x in
+    elim (c.record_turns.ensures.memory e) [
+      | inl k ↦ inl (subst T o.ensures.target k.0, subst H o.ensures.held k.1)
+      | inr k ↦ inr (record {
+        out = o.field-0.out.now;
+        plan = o.ensures.ready.plan;
+        streams = o.field-0.streams.items;
+        asked = o.ensures.ready.asked;
+        cut = cut_from _ _ _ _ _ _ _ _ o.ensures.target o.ensures.held k;
+      })
+    ]

@@ -36,3 +36,8 @@ returns-clause-not_said g c = λ _.
       file_kept g.D.Source.Source.left g.D.Source.Source.faults g.D.Source.Source.mark (g.D.Dock.contents c.args.dock.now) c.args.words.now _ _ _ _ _ _ w.fed w.chunks c.say_lines.ensures.target c.say_lines.ensures.held w.file,
       appends_front_from _ _ _ _ _ c.in_ok-written.ensures.printed (ap printed_lines lines) c.in-Err.ensures.failed.0,
     )
+
+pub returns-in_err-lines-clause-numbers : goal.returns-in_err-lines-clause-numbers
+returns-in_err-lines-clause-numbers g c = λ _.
+    let w = c.in_ok-written.ensures.written in
+    inr (inr (w.fed, w.chunks, w.file))

@@ -34,3 +34,7 @@ returns-in-Err-Open-clause-open_fault g c = λ _. rw c.say_fault-in-Err-Open.ens
 pub returns-in-Err-Write-clause-write_fault : goal.returns-in-Err-Write-clause-write_fault
 returns-in-Err-Write-clause-write_fault g c = λ _.
     rw (c.say_fault-in-Err-Write.ensures.target, c.say_fault-in-Err-Write.ensures.held, c.say_fault-in-Err-Write.ensures.write_faults) (c.in-Err-Write.ensures.not_written (ap Err c.in-Err-Write.field-0-is))
+
+pub returns-in-Err-Memory-clause-numbers : goal.returns-in-Err-Memory-clause-numbers
+returns-in-Err-Memory-clause-numbers g c = λ _.
+    rw (c.say_fault-in-Err-Memory.ensures.target, c.say_fault-in-Err-Memory.ensures.held) (c.in-Err-Memory.ensures.numbers (ap Err c.in-Err-Memory.field-0-is))

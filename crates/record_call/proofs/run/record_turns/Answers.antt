@@ -45,18 +45,22 @@ returns-in-WriteFault-clause-printed g c = g.met.D.Dock.write_keeps_printed c.cr
 pub returns-in-WriteFault-clause-print_faults : goal.returns-in-WriteFault-clause-print_faults
 returns-in-WriteFault-clause-print_faults g c = g.met.D.Dock.write_keeps_print_faults c.create.new.self c.run_turns.new.sink c.run_turns.ensures.rest ∙ c.in-Ok.ensures.print_faults
 
-pub returns-in-Memory-clause-memory : goal.returns-in-Memory-clause-memory
-returns-in-Memory-clause-memory g c = λ _.
+pub returns-clause-memory : goal.returns-clause-memory
+returns-clause-memory g c = λ _.
     let stopped = c.in-Memory.ensures.stopped c.args.sizes.ring c.args.sizes.batch c.args.streams.items c.args.feeds.items c.in_ok-recorder.ensures in
     let P : Option (List ℕ) → Type 0 = λ t. Becomes (g.D.Dock.target c.args.dock.now) t c.args.out.now in
     let target = subst P (sym (g.met.D.Dock.write_keeps_target c.create.new.self c.run_turns.new.sink c.run_turns.ensures.rest)) c.in-Ok.ensures.target in
     inr (cut_of c.args.streams.items c.args.out.now _ _ _ _ _ target c.in-Ok.ensures.held stopped)
 
-pub returns-in-Memory-clause-later : goal.returns-in-Memory-clause-later
-returns-in-Memory-clause-later g c = omega (arith, g.met.D.Dock.write_keeps_open_faults c.create.new.self c.run_turns.new.sink c.run_turns.ensures.rest, c.in-Ok.ensures.no_fault)
+pub returns-clause-later : goal.returns-clause-later
+returns-clause-later g c = omega (arith, g.met.D.Dock.write_keeps_open_faults c.create.new.self c.run_turns.new.sink c.run_turns.ensures.rest, c.in-Ok.ensures.no_fault)
 
-pub returns-in-Memory-clause-printed : goal.returns-in-Memory-clause-printed
-returns-in-Memory-clause-printed g c = g.met.D.Dock.write_keeps_printed c.create.new.self c.run_turns.new.sink c.run_turns.ensures.rest ∙ c.in-Ok.ensures.printed
+pub returns-clause-printed : goal.returns-clause-printed
+returns-clause-printed g c = g.met.D.Dock.write_keeps_printed c.create.new.self c.run_turns.new.sink c.run_turns.ensures.rest ∙ c.in-Ok.ensures.printed
 
-pub returns-in-Memory-clause-print_faults : goal.returns-in-Memory-clause-print_faults
-returns-in-Memory-clause-print_faults g c = g.met.D.Dock.write_keeps_print_faults c.create.new.self c.run_turns.new.sink c.run_turns.ensures.rest ∙ c.in-Ok.ensures.print_faults
+pub returns-clause-print_faults : goal.returns-clause-print_faults
+returns-clause-print_faults g c = g.met.D.Dock.write_keeps_print_faults c.create.new.self c.run_turns.new.sink c.run_turns.ensures.rest ∙ c.in-Ok.ensures.print_faults
+
+pub returns-clause-numbers : goal.returns-clause-numbers
+returns-clause-numbers g c = λ _.
+    inr (λ numbers. c.in-Memory.ensures.memory c.args.sizes.ring c.args.sizes.batch c.args.streams.items c.args.feeds.items c.in_ok-recorder.ensures numbers refl)

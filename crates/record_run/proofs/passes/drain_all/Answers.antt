@@ -6,7 +6,11 @@ use Rattle.turns_model.specs.Turns.{batch_of}
 use Rattle.record_writer.specs.Desk.{next_at}
 use Rattle.record_writer.specs.Standing.{IsClosed}
 use Rattle.record_run.specs.Rings.{ring_entry}
-use Rattle.record_run.specs.Inlets.{InletView, IsDrained, waiting_batches}
+use Rattle.std.proofs.lemmas.List.{length-map}
+use Rattle.xdf_model.specs.declared.types.Shape.{Shape}
+use Rattle.record_writer.specs.declared.place.Place.{Place}
+use Rattle.record_run.proofs.Handing.{handed}
+use Rattle.record_run.specs.Inlets.{InletView, AreWaiting, IsDrained, waiting_batches}
 use Rattle.record_run.proofs.Rounds.{set_cases, set_else, same_or, on_err, waiting_more}
 use Rattle.record_run.proofs.passes.drain_all.Goals as goal
 
@@ -62,3 +66,45 @@ pub returns-clause-put : goal.returns-clause-put
 returns-clause-put g c = λ streams base batches stands.
     let P : List (InletView g.row.S.Denot) → Type 0 = λ l. IsClosed streams base (g.K.Sink.held c.loop-place.writer.sink.now) c.loop-place.writer.room.desk (batches ++ waiting_batches 0 l) in
     subst P (take_all c.loop-place.place c.args.inlets.now c.loop-place-test.false) (c.loop-place.invariant.put streams base batches stands)
+
+pub drain-requires-clause-shape : goal.drain-requires-clause-shape
+drain-requires-clause-shape g c =
+    let i = c.loop-place.invariant in
+    let p = c.loop-place.place in
+    let here = get_or c.loop-place.inlets p c.index-inlets-place.result in
+    let there : slice_get c.loop-place.inlets p ≡ Some here = slice_get-get_or c.loop-place.inlets p c.index-inlets-place.result (omega (arith, c.loop-place-test.true, i.count)) in
+    let w = c.requires.waiting p here (sym (i.todo p (omega arith)) ∙ there) in
+    ap (λ (l : List Shape). slice_get l p) i.shapes ∙ w.0
+
+pub drain-requires-clause-place : goal.drain-requires-clause-place
+drain-requires-clause-place g c =
+    let i = c.loop-place.invariant in
+    let p = c.loop-place.place in
+    let f : Place → Shape = λ x. x.shape in
+    let places = c.loop-place.writer.room.desk.places in
+    let here = get_or c.loop-place.inlets p c.index-inlets-place.result in
+    let there : slice_get c.loop-place.inlets p ≡ Some here = slice_get-get_or c.loop-place.inlets p c.index-inlets-place.result (omega (arith, c.loop-place-test.true, i.count)) in
+    let w = c.requires.waiting p here (sym (i.todo p (omega arith)) ∙ there) in
+    let at : slice_get (map f places) p ≡ Some here.inlet.shape = ap (λ (l : List Shape). slice_get l p) i.shapes ∙ w.0 in
+    omega (arith, slice_get_within (map f places) p here.inlet.shape at, length-map places f)
+
+pub drain-requires-clause-waiting : goal.drain-requires-clause-waiting
+drain-requires-clause-waiting g c =
+    let i = c.loop-place.invariant in
+    let p = c.loop-place.place in
+    let here = get_or c.loop-place.inlets p c.index-inlets-place.result in
+    let there : slice_get c.loop-place.inlets p ≡ Some here = slice_get-get_or c.loop-place.inlets p c.index-inlets-place.result (omega (arith, c.loop-place-test.true, i.count)) in
+    let w = c.requires.waiting p here (sym (i.todo p (omega arith)) ∙ there) in
+    subst (λ (n : ℕ). AreWaiting here.inlet.shape n here) (sym (i.low p (omega arith))) w.1
+
+pub returns-in_err-drain-clause-memory : goal.returns-in_err-drain-clause-memory
+returns-in_err-drain-clause-memory g c = λ e numeric.
+    let i = c.loop-place.invariant in
+    let p = c.loop-place.place in
+    let here = get_or c.loop-place.inlets p c.index-inlets-place.result in
+    let there : slice_get c.loop-place.inlets p ≡ Some here = slice_get-get_or c.loop-place.inlets p c.index-inlets-place.result (omega (arith, c.loop-place-test.true, i.count)) in
+    c.in_err-drain.ensures.memory (handed c.from_residual.result c.in_err-drain.field-0.0 _ c.from_residual.ensures.1 e) (numeric p here (sym (i.todo p (omega arith)) ∙ there))
+
+pub returns-clause-next : goal.returns-clause-next
+returns-clause-next g c = λ p x before.
+    c.loop-place.invariant.next p x (omega (arith, slice_get_within c.args.inlets.now p x before, c.loop-place-test.false)) before

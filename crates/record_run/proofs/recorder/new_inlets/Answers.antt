@@ -4,8 +4,16 @@ use Rattle.recording_model.specs.declared.stream.StreamDoc.{StreamDoc}
 use Rattle.record_run.specs.declared.feed.FeedSource.{FeedSource}
 use Rattle.record_run.specs.Inlets.{InletView}
 use Rattle.record_run.specs.Recorders.{IsNewInlet}
+use Rattle.record_run.proofs.Shapes.{stream_small}
 use Rattle.record_run.proofs.Starting.{opened_next, front_at, drop_next}
 use Rattle.record_run.proofs.recorder.new_inlets.Goals as goal
+
+pub new-requires-clause-count : goal.new-requires-clause-count
+new-requires-clause-count g c =
+    let n = c.loop-place.place in
+    let s : StreamDoc = c.index-streams-place.result in
+    let at : slice_get c.args.streams.now n ≡ Some s = slice_get_read c.args.streams.now (length c.args.streams.now) n s refl c.loop-place-test.true c.index-streams-place.is in
+    stream_small c.args.streams.now c.requires.are n s at
 
 pub loop-place-preserved : goal.loop-place-preserved
 loop-place-preserved g c =

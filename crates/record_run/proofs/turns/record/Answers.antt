@@ -1,5 +1,7 @@
-use Rattle.std.proofs.Common.{rules, ◌≡◌, ℕ, List, Option, sym, ap, subst}
+use Rattle.std.proofs.Common.{rules, ◌≡◌, Err, ℕ, List, map, Option, sym, ap, subst}
+use Rattle.record_run.specs.Inlets.{InletView}
 use Rattle.std.specs.Prelude.{IfOk, OnErr}
+use Rattle.record_writer.specs.declared.fault.WriterFault.TheVariants as fault
 use Rattle.record_writer.specs.declared.room.WriterRoom.{WriterRoom}
 use Rattle.record_run.specs.Outcomes.{IsRecorded, IsCutOff}
 use Rattle.record_run.specs.Recorders.{IsOpenFor}
@@ -15,8 +17,8 @@ returns-in-Ok-clause-done g c = λ ring streams feeds o.
     let t = c.in-Ok.ensures.turned ring streams feeds (subst R (sym c.over-writer.ensures.room) o) in
     let before : g.K.Sink.held c.over-writer.result.sink.now ≡ g.K.Sink.held c.args.sink.now = ap g.K.Sink.held c.over-writer.ensures.sink in
     let after : g.K.Sink.held c.finish.new.writer.0 ≡ g.K.Sink.held c.sink-1.given.0 = search rules in
-    let B : Option (List ℕ) → Type 0 = λ base. IfOk c.finish.result (λ r. IsRecorded L F M ring batch streams feeds base (g.K.Sink.held c.finish.new.writer.0) r.reports r.bytes r.chunks) in
-    let A : Option (List ℕ) → Type 0 = λ now. IfOk c.finish.result (λ r. IsRecorded L F M ring batch streams feeds (g.K.Sink.held c.args.sink.now) now r.reports r.bytes r.chunks) in
+    let B : Option (List ℕ) → Type 0 = λ base. IfOk c.finish.result (λ r. IsRecorded L F M ring batch streams feeds base (g.K.Sink.held c.finish.new.writer.0) r.reports r.bytes r.chunks (map (λ (x : InletView g.row.S.Denot). x.source) c.take_turns.new.inlets)) in
+    let A : Option (List ℕ) → Type 0 = λ now. IfOk c.finish.result (λ r. IsRecorded L F M ring batch streams feeds (g.K.Sink.held c.args.sink.now) now r.reports r.bytes r.chunks (map (λ (x : InletView g.row.S.Denot). x.source) c.take_turns.new.inlets)) in
     subst A after (subst B before (c.finish.ensures.done ring batch t.0 streams feeds (g.K.Sink.held c.over-writer.result.sink.now) t.1 o.low o.some t.2))
 
 pub returns-in-Ok-clause-stopped : goal.returns-in-Ok-clause-stopped
@@ -41,3 +43,9 @@ returns-in-Err-clause-stopped g c = λ ring streams feeds o.
     let B : Option (List ℕ) → Type 0 = λ base. IsCutOff streams base (g.K.Sink.held c.take_turns.new.writer.sink.now) in
     let A : Option (List ℕ) → Type 0 = λ now. IsCutOff streams (g.K.Sink.held c.args.sink.now) now in
     subst A after (subst A let_go (subst B before k))
+
+pub returns-in-Err-clause-memory : goal.returns-in-Err-clause-memory
+returns-in-Err-clause-memory g c = λ ring streams feeds o numbers e.
+    let R : WriterRoom → Type 0 = λ room. IsOpenFor ring c.args.batch streams feeds (record { inlets = c.args.inlets.now; desk = room.desk; batch = c.args.batch }) in
+    let same : c.in-Err.fault ≡ fault.Memory = cc e in
+    c.in-Err.ensures.memory ring streams feeds (subst R (sym c.over-writer.ensures.room) o) numbers (ap Err same)

@@ -4,9 +4,10 @@ use Rattle.turns_model.specs.Turns.{first_turns}
 use Rattle.record_writer.specs.Desk.{DeskState}
 use Rattle.record_writer.specs.Standing.{IsClosed}
 use Rattle.record_run.specs.Turning.{AreTurned}
+use Rattle.record_run.proofs.Handing.{handed}
 use Rattle.record_run.proofs.Rounds.{on_err}
-use Rattle.record_run.proofs.Stepping.{new_lists, all_waiting, all_turned}
-use Rattle.record_run.proofs.Starting.{opened_turned, queues_empty, not_endless, turned_cut, cut_off}
+use Rattle.record_run.proofs.Stepping.{new_lists, numeric_filled, all_waiting, all_turned}
+use Rattle.record_run.proofs.Starting.{opened_turned, queues_empty, numeric_turned, not_endless, turned_cut, cut_off}
 use Rattle.record_run.proofs.turns.take_turns.Goals as goal
 
 pub loop-init : goal.loop-init
@@ -114,3 +115,19 @@ unreachable-requires g c =
     let i = c.loop.invariant.turned ring streams feeds o in
     let w = c.loop.invariant.waits (omega (arith, c.loop-test.false)) in
     not_endless g.S.Source.left g.S.Source.faults g.S.Source.mark ring c.args.batch c.loop.counter streams feeds _ _ c.loop.writer.room.desk i.0 c.loop.inlets i.1 w.0 w.1 w.2 w.3 o.some (omega (arith, c.loop-test.false))
+
+pub returns-in_err-fill_all-clause-memory : goal.returns-in_err-fill_all-clause-memory
+returns-in_err-fill_all-clause-memory g c = λ ring streams feeds o numbers e.
+    let i = c.loop.invariant.turned ring streams feeds o in
+    c.in_err-fill_all.ensures.memory (numeric_turned g.S.Source.left g.S.Source.faults g.S.Source.mark ring c.args.batch c.loop.counter streams feeds _ _ c.loop.writer.room.desk i.0 c.loop.inlets i.1 numbers)
+
+pub returns-in_err-drain_all-clause-memory : goal.returns-in_err-drain_all-clause-memory
+returns-in_err-drain_all-clause-memory g c = λ ring streams feeds o numbers e.
+    let L = g.S.Source.left in
+    let F = g.S.Source.faults in
+    let M = g.S.Source.mark in
+    let i = c.loop.invariant.turned ring streams feeds o in
+    let f = c.in_ok-fill_all.ensures.filled (queues_empty L F M ring c.args.batch c.loop.counter streams feeds _ _ c.loop.writer.room.desk i.0 c.loop.inlets i.1) in
+    let before = numeric_turned L F M ring c.args.batch c.loop.counter streams feeds _ _ c.loop.writer.room.desk i.0 c.loop.inlets i.1 numbers in
+    let after = numeric_filled L F M c.args.batch ring c.loop.counter streams feeds _ _ c.loop.writer.room.desk i.0 c.loop.inlets c.fill_all.new.inlets o.low o.some i.1 c.in_ok-fill_all.ensures.count f before in
+    c.in_err-drain_all.ensures.memory (handed c.from_residual-in_err-drain_all.result c.in_err-drain_all.field-0.0 _ c.from_residual-in_err-drain_all.ensures.1 e) after

@@ -8,7 +8,8 @@ invariant_of-result g c =
     let first : c.deref.result.now ≡ c.args.streams.items = search rules in
     let second : c.deref-2.result.now ≡ c.args.streams.items = search rules in
     let e = c.in_ok-inlets.ensures in
-    let room : length c.in_ok-inlets.inlets.items ≤ vec_capacity c.in_ok-reports.reports = omega (arith, c.in_ok-reports.ensures.capacity, c.len.ensures, e.count, ap length second) in (
+    let room : length c.in_ok-inlets.inlets.items ≤ vec_capacity c.in_ok-reports.reports = omega (arith, c.in_ok-reports.ensures.capacity, c.len.ensures, e.count, ap length second) in
+    let room_for_sources : length c.in_ok-inlets.inlets.items ≤ vec_capacity c.in_ok-sources.sources = omega (arith, c.in_ok-sources.ensures.capacity, c.len-2.ensures, e.count, ap length second) in (
       record {
         ring = c.args.ring;
         batch = c.args.batch;
@@ -19,6 +20,8 @@ invariant_of-result g c =
       },
       c.in_ok-reports.ensures.items,
       room,
+      c.in_ok-sources.ensures.items,
+      room_for_sources,
     )
 
 pub returns : goal.returns
