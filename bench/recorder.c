@@ -498,6 +498,7 @@ int main(int count, char **words)
 {
     static struct plan plan;
     static struct output output;
+    static char waiting[BUFFER]; /* without room that is lent, the C library takes 4,096 bytes of its own */
     if (count != 3)
         fail("recorder PLAN OUT");
     read_plan(words[1], &plan);
@@ -505,7 +506,7 @@ int main(int count, char **words)
         open_feed(&plan.feeds[i], plan.ring);
 
     output.file = fopen(words[2], "w");
-    if (output.file == NULL || setvbuf(output.file, NULL, _IOFBF, BUFFER) != 0)
+    if (output.file == NULL || setvbuf(output.file, waiting, _IOFBF, sizeof waiting) != 0)
         fail(words[2]);
     write_bytes(&output, "XDF:", 4);
     write_chunk(&output, 1, VERSION, strlen(VERSION), "", 0);
