@@ -1,0 +1,5 @@
+pub mod Rings
+pub mod Fitting
+pub mod Putting
+pub mod Run
+pub mod Outcomes
