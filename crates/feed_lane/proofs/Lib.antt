@@ -1,0 +1,3 @@
+mod Telling
+mod Putting
+pub mod Filled
