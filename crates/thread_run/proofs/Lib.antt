@@ -1,0 +1,7 @@
+pub mod Reading
+pub mod Gathering
+pub mod Behind
+pub mod Going
+pub mod Settling
+pub mod Starting
+pub mod Finishing

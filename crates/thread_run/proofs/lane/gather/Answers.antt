@@ -1,0 +1,27 @@
+use Rattle.std.proofs.Common.{Bool, arith, ◌∙◌}
+use Rattle.std.proofs.Common.{subst}
+use Rattle.feed_lane.specs.Lanes.{IsPutOut}
+use Rattle.run_model.proofs.Batches.{open_of}
+use Rattle.run_model.proofs.Errors.{on_err}
+use Rattle.thread_run.proofs.Gathering.{gathered_more}
+use Rattle.thread_run.proofs.lane.gather.Goals as goal
+
+pub returns-in_err-put_oldest-clause-cut : goal.returns-in_err-put_oldest-clause-cut
+returns-in_err-put_oldest-clause-cut g c = λ streams base batches st.
+    let d = c.loop-count.invariant.gathered in
+    on_err c.from_residual.result (c.in_err-put_oldest.ensures.cut streams base batches (open_of c.args.place d.put) (d.stands streams base batches st))
+
+pub loop-count-preserved : goal.loop-count-preserved
+loop-count-preserved g c =
+    let i = c.loop-count.invariant in
+    let p = c.in_ok-put_oldest.ensures in
+    let y = c.put_oldest.new in
+    let O : Bool → Type 0 = λ b. IsPutOut c.loop-count.head y.self c.args.place c.loop-count.writer.room.desk y.writer.room.desk (g.K.Sink.held c.loop-count.writer.sink.now) (g.K.Sink.held y.writer.sink.now) b in
+    let o = subst O c.if-not-branch.false p.out in
+    record {
+      gathered = gathered_more c.args.place c.loop-count.count c.args.head.now.taken c.loop-count.head.taken y.self.taken c.args.writer.now.room.desk c.loop-count.writer.room.desk y.writer.room.desk _ (g.K.Sink.held c.loop-count.writer.sink.now) _ o.0 i.gathered o.1 o.2;
+      lane = p.same ∙ i.lane;
+      same_reference = p.same_reference ∙ i.same_reference;
+      later = omega (arith, p.later, i.later);
+      rest = p.rest ∙ i.rest;
+    }
