@@ -1,14 +1,12 @@
 -- The recording of a drill, and its check.
-use Rattle.std.proofs.Common.{◌≡◌, ℕ, zero, suc, ◌+◌, ◌≤◌, ◌^◌, List, [], ◌∷◌, ◌++◌, length, map, Option, None, Some, refl, sym, ap, ◌∙◌, subst, arith, append_assoc}
-use Rattle.std.specs.Prelude.{slice_get, IsTrue, Ok}
-use Rattle.std.specs.List.{AllByRecursion}
-use Rattle.std.specs.Io.KnownBytes.{Appends, Consumes}
-use Rattle.reading_model.specs.Outlook.{How, ended, Kind, at_fault}
+use Rattle.std.proofs.Common.{◌≡◌, ℕ, zero, suc, ◌+◌, ◌≤◌, ◌^◌, List, [], ◌∷◌, ◌++◌, length, map, Option, None, Some, refl, sym, ap, ◌∙◌, subst, arith}
+use Rattle.std.specs.Prelude.{Ok}
+use Rattle.reading_model.specs.Outlook.{ended, Kind, at_fault}
 use Rattle.reading_model.specs.Read.{Reader, IsRead}
 use Rattle.piece_reader.proofs.Ending.{reading_of}
 use Rattle.xdf_model.specs.Sample.{Sample}
 use Rattle.chunk_grammar.specs.declared.chunk.Chunk.{Chunk}
-use Rattle.chunk_grammar.specs.Chunk.{magic, IsFileText, least_file_text}
+use Rattle.chunk_grammar.specs.Chunk.{IsFileText, least_file_text}
 use Rattle.xdf_model.specs.Shape.{shape_in}
 use Rattle.stream_check.specs.Ends.{told_count}
 use Rattle.inlet_model.specs.declared.end.FeedEnd.{FeedEnd}
@@ -18,10 +16,12 @@ use Rattle.recording_model.specs.declared.stream.StreamDoc.{StreamDoc}
 use Rattle.recording_model.specs.Ledger.{stream_samples}
 use Rattle.recording_model.specs.Recording.{AreStreams, IsRecording, IsStream, lost_in}
 use Rattle.turns_model.specs.Turns.{turn_batches}
-use Rattle.record_run.specs.declared.feed.FeedSource.{FeedSource}
-use Rattle.record_run.specs.declared.report.FeedReport.{FeedReport}
-use Rattle.record_run.specs.Run.{Fed, IsRun, feed_of, report_of}
-use Rattle.record_run.specs.Outcomes.{IsRecorded}
+use Rattle.run_model.specs.declared.feed.FeedSource.{FeedSource}
+use Rattle.run_model.specs.declared.report.FeedReport.{FeedReport}
+use Rattle.run_model.specs.Run.{Fed, IsRun, feed_of, report_of}
+use Rattle.run_model.specs.Outcomes.{IsRecorded}
+use Rattle.run_model.proofs.BothModes.{IsRunByTurns, of_turns}
+use Rattle.plan_model.specs.declared.plan.Mode.TheVariants.{Turns}
 use Rattle.drill_feeds.specs.Drill.{drill_bytes, drill_document, drill_samples, drill_shape}
 use Rattle.file_call.specs.Drilled.{drill_ring, drill_batch, drill_ids, drill_stream, drill_streams, drill_source, drill_sources, all_kept, all_lost, kept_at, lost_at}
 
@@ -73,7 +73,7 @@ are_streams streams is first second third =
 -- a run of three feeds
 module _ (number : ℕ) (chunks : List Chunk) (law : (id : ℕ) → 1 ≤ id → id ≤ 3 → feed_within None (drill_shape id) None (2 ^ 40) (drill_bytes number id) ≡ (drill_samples number id, Whole)) where
   abbrev Run : List (Fed (List ℕ)) → Type 0
-  Run fed = IsRun left_of no_faults no_mark drill_ring drill_batch drill_streams (drill_sources number) fed chunks
+  Run fed = IsRunByTurns left_of no_faults no_mark drill_ring drill_batch drill_streams (drill_sources number) fed chunks
 
   fed_samples : (fed : List (Fed (List ℕ))) → Run fed → map (λ x. x.samples) fed ≡ map (drill_samples number) drill_ids
   fed_samples [] run = absurd (let e = run.each_stream in cc e)
@@ -117,12 +117,13 @@ module _ (number : ℕ) (chunks : List Chunk) (law : (id : ℕ) → 1 ≤ id →
 pub recorded_of : (number : ℕ) (before now : List ℕ) (streams : List StreamDoc) (feeds : List (FeedSource (List ℕ))) (reports : List FeedReport) (sources : List (List ℕ)) (bytes count kept lost : ℕ)
     → ((id : ℕ) → 1 ≤ id → id ≤ 3 → feed_within None (drill_shape id) None (2 ^ 40) (drill_bytes number id) ≡ (drill_samples number id, Whole)) → before ≡ [] → streams ≡ drill_streams → feeds ≡ drill_sources number
     → kept ≡ told_count (kept_at reports 0 + kept_at reports 1 + kept_at reports 2) → lost ≡ told_count (lost_at reports 0 + lost_at reports 1 + lost_at reports 2)
-    → IsRecorded left_of no_faults no_mark drill_ring drill_batch streams feeds (Some before) (Some now) reports bytes count sources
+    → IsRecorded left_of no_faults no_mark Turns drill_ring drill_batch streams feeds (Some before) (Some now) reports bytes count sources
     → (cs : List Chunk) × IsRecording drill_streams (turn_batches drill_ring drill_batch (map (drill_samples number) drill_ids)) cs × IsFileText cs (least_file_text cs) × (now ≡ least_file_text cs) × (count ≡ told_count (length cs))
     × (kept ≡ told_count (all_kept cs)) × (lost ≡ told_count (all_lost cs))
 recorded_of number before now streams feeds reports sources bytes count kept lost law empty streams_are feeds_are kept_is lost_is r =
-    let R : List StreamDoc → List (FeedSource (List ℕ)) → Type 0 = λ s f. IsRun left_of no_faults no_mark drill_ring drill_batch s f r.fed r.chunks in
-    let run : R drill_streams (drill_sources number) = subst (λ f. R drill_streams f) feeds_are (subst (λ s. R s feeds) streams_are r.run) in
+    let R : List StreamDoc → List (FeedSource (List ℕ)) → Type 0 = λ s f. IsRun left_of no_faults no_mark Turns drill_ring drill_batch s f r.fed r.chunks in
+    let known : R drill_streams (drill_sources number) = subst (λ f. R drill_streams f) feeds_are (subst (λ s. R s feeds) streams_are r.run) in
+    let run = of_turns left_of no_faults no_mark drill_ring drill_batch drill_streams (drill_sources number) r.fed r.chunks known in
     let samples = fed_samples number r.chunks law r.fed run in (
       r.chunks,
       subst (λ lists. IsRecording drill_streams (turn_batches drill_ring drill_batch lists) r.chunks) samples run.recording,

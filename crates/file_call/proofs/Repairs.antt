@@ -1,14 +1,13 @@
 -- A repair by its parts.
-use Rattle.std.proofs.Common.{◌≡◌, ℕ, ◌<◌, ◌≤◌, List, [], ◌++◌, length, take, Option, None, Some, ◌+◌, sym, ap, ◌∙◌, subst, arith}
+use Rattle.std.proofs.Common.{◌≡◌, ℕ, ◌<◌, List, [], ◌++◌, length, take, Option, None, Some, ◌+◌, sym, ap, ◌∙◌, subst, arith}
 use Rattle.std.specs.Prelude.{slice_get}
 use Rattle.std.proofs.Math.Seq.{take-length}
 use Rattle.std.proofs.lemmas.List.{append-nil, length-append}
-use Rattle.std.specs.Io.KnownBytes.{Appends, Consumes, IsAtEnd}
+use Rattle.std.specs.Io.KnownBytes.{Consumes, IsAtEnd}
 use Rattle.std.proofs.KnownBytes.{Consumes-trans}
 use Rattle.rec_base.specs.Causes.{Rose}
 use Rattle.rec_base.specs.Contents.{Contents, IsInput, IsOpened}
 use Rattle.rec_base.specs.Known.{AppendsFront, Becomes, BecomesFront}
-use Rattle.rec_base.specs.Moved.{HasFailed}
 use Rattle.rec_base.specs.declared.name.Name.TheVariants.{File}
 use Rattle.rec_base.proofs.Taken.{Becomes-appends}
 use Rattle.chunk_grammar.specs.Chunk.{magic}

@@ -12,8 +12,8 @@ use Rattle.recording_model.specs.Ledger.{stream_samples}
 use Rattle.recording_model.specs.Recording.{IsRecording, lost_in}
 use Rattle.turns_model.specs.Turns.{turn_batches}
 use Rattle.report_model.specs.Notes.{check_notes}
-use Rattle.record_run.specs.declared.report.FeedReport.{FeedReport}
-use Rattle.record_run.specs.declared.feed.FeedSource.{FeedSource}
+use Rattle.run_model.specs.declared.report.FeedReport.{FeedReport}
+use Rattle.run_model.specs.declared.feed.FeedSource.{FeedSource}
 use Rattle.drill_feeds.specs.Drill.{drill_bytes, drill_document, drill_samples, drill_shape}
 use Rattle.stream_check.specs.Ends.{told_count}
 use Rattle.file_call.specs.Files.{file_chunks}

@@ -1,5 +1,5 @@
 -- The statuses of the commands on files. This project's own.
-use Rattle.std.specs.Prelude.{◌≡◌, ℕ, Bool, ◌==◌, ◌||◌, List, [], ◌∷◌, Result, Ok, Err}
+use Rattle.std.specs.Prelude.{ℕ, Bool, ◌==◌, ◌||◌, List, [], ◌∷◌}
 use Rattle.reading_model.specs.Outlook.{All}
 use Rattle.file_model.specs.declared.end.FileEnd.{FileEnd}
 use Rattle.file_model.specs.declared.end.FileEnd.TheVariants.{End, Torn, Bad, ReadFault, SizeLimit}

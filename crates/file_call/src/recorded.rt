@@ -14,6 +14,7 @@ ghost use Rattle.file_call.specs.Drilled.{all_kept, all_lost, drill_batch, drill
 
 use drill_feeds::{drill_doc, drill_feed};
 use drill_laws::drill_feed_is_its_samples;
+use plan_model::Mode;
 use rec_base::{Blob, MemSink, Memory, NeverFails};
 use record_run::{FeedSource, Outcome, Recorder, ReportList, StreamDoc};
 use std::alloc::Global;
@@ -161,7 +162,7 @@ pub(crate) fn record_drill(
 {
     let streams = all_streams(alloc)?;
     let feeds = all_feeds(alloc, number)?;
-    let recorder = Recorder::open(alloc, RING, BATCH, streams, feeds)?;
+    let recorder = Recorder::open(alloc, Mode::Turns, RING, BATCH, streams, feeds)?;
     match recorder.run_turns(sink) {
         Outcome::Done {
             reports,

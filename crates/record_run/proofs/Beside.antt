@@ -6,7 +6,7 @@ use Rattle.xdf_model.specs.Sample.{Sample}
 use Rattle.recording_model.specs.Batch.{Entry, Batch}
 use Rattle.turns_model.specs.Turns.{kept_in, batch_of, turn, first_turns}
 use Rattle.loss_model.specs.Loss.{entries_at}
-use Rattle.record_run.specs.Rings.{ring_entry}
+use Rattle.run_model.specs.Rings.{ring_entry}
 use Rattle.record_run.specs.Kept.{kept_up_to}
 use Rattle.record_run.specs.Inlets.{InletView, waiting_batches}
 use Rattle.record_run.proofs.Slabs.{HasGrown, kept_before}

@@ -15,20 +15,16 @@ use Rattle.turns_model.specs.Turns.{batch_of}
 use Rattle.record_writer.specs.declared.place.Place.{Place}
 use Rattle.record_writer.specs.declared.fault.WriterFault.{WriterFault}
 use Rattle.record_writer.specs.Desk.{DeskState, next_at, shapes_of, IsFreeFor}
-use Rattle.record_writer.specs.Standing.{StandsFor, IsCut, closed, with_entry}
-use Rattle.record_run.specs.Rings.{ring_entry}
-use Rattle.record_run.specs.FeedRings.{IsTake, IsOnePut, IsTakenAt}
-use Rattle.record_run.specs.Inlets.{InletView, IsFitting, IsDrained, AreWaiting}
+use Rattle.record_writer.specs.Standing.{StandsFor, IsCut, closed}
+use Rattle.run_model.specs.Rings.{ring_entry}
+use Rattle.record_run.specs.FeedRings.{IsTake}
+use Rattle.run_model.specs.Putting.{IsOnePut, IsTakenAt}
+use Rattle.record_run.specs.Inlets.{InletView, IsDrained, AreWaiting}
+use Rattle.run_model.specs.Fitting.{IsFitting}
+use Rattle.run_model.proofs.Lists.{cons_of}
+use Rattle.run_model.proofs.Batches.{open_of, open_more, closed_all}
 
 -- ---- the ring
-
-pub cons_of : {A : Type 0} (q : List A) (x : A) → slice_get q 0 ≡ Some x → q ≡ x ∷ drop 1 q
-cons_of [] x e = absurd cc
-cons_of (y ∷ q) x e = let same : y ≡ x = cc in ap (λ (z : _). z ∷ q) same
-
-pub nil_of : {A : Type 0} (q : List A) → slice_get q 0 ≡ None → q ≡ []
-nil_of [] e = refl
-nil_of (y ∷ q) e = absurd cc
 
 -- these were taken out of a ring
 pub record HasTaken (old now : Lone Sample) (a b : RingState Sample) : Type 0 where
@@ -93,21 +89,6 @@ next_of shape next pushes first (s ∷ more) e rest is low high fits =
 pub comes_next : {S : Type 0} (shape : Shape) (next : ℕ) (x : InletView S) (e : RingEntry Sample) → AreWaiting shape next x → slice_get x.ring.queue 0 ≡ Some e → ComesNext shape next x.ring.pushes e (drop 1 x.ring.queue)
 comes_next shape next x e w is =
     next_of shape next x.ring.pushes w.first w.samples e (drop 1 x.ring.queue) (sym (ap (map ring_entry) (cons_of x.ring.queue e is)) ∙ w.queue) w.low w.high w.fits
-
--- ---- the batch
-
--- the open batch of these entries; none where there are none
-abbrev pub open_of : ℕ → List Entry → Option Batch
-open_of place [] = None
-open_of place (e ∷ more) = Some (record { place = place; entries = e ∷ more })
-
-pub open_more : (place position : ℕ) (s : Sample) (put : List Entry) → Some (with_entry place (open_of place put) position s) ≡ open_of place (put ++ record { position = position; sample = s } ∷ [])
-open_more place position s [] = refl
-open_more place position s (e ∷ more) = refl
-
-pub closed_all : (place : ℕ) (batches : List Batch) (put : List Entry) → closed batches (open_of place put) ≡ batches ++ batch_of place put
-closed_all place batches [] = sym (append-nil batches)
-closed_all place batches (e ∷ more) = refl
 
 pub record SameBut {S : Type 0} (x now : InletView S) : Type 0 where
   pub id : now.id ≡ x.id

@@ -4,7 +4,7 @@ use Rattle.std.proofs.lemmas.Bool.{eqb-true, eqb-false}
 use Rattle.std.proofs.lemmas.List.{map-append, drop-map, length-map, append-nil}
 use Rattle.std.specs.List.{AllByRecursion}
 use Rattle.rec_base.specs.Causes.{Rose}
-use Rattle.reading_model.specs.Outlook.{at_fault, item, end, Answered}
+use Rattle.reading_model.specs.Outlook.{item, end, Answered}
 use Rattle.reading_model.specs.Read.{Reader}
 use Rattle.piece_reader.specs.Steps.{Begun}
 use Rattle.piece_reader.proofs.Collecting.{begun_item}
@@ -22,13 +22,15 @@ use Rattle.recording_model.specs.Batch.{Entry, entries_from}
 use Rattle.record_writer.proofs.Layouts.{entries_more}
 use Rattle.turns_laws.specs.Slabs.{last_of}
 use Rattle.turns_laws.proofs.Rings.{push_room, push_full}
-use Rattle.record_run.specs.Rings.{ring_entry}
+use Rattle.run_model.specs.Rings.{ring_entry}
 use Rattle.feed_samples.specs.declared.step.FeedStep.{FeedStep}
 use Rattle.feed_samples.specs.declared.step.FeedStep.TheVariants as step
 use Rattle.feed_samples.specs.Inlet.{FitsGiven, got, received_by}
+use Rattle.run_model.proofs.Ends.{fault_alone}
 use Rattle.record_run.specs.declared.ring.Given.TheVariants as given
 use Rattle.record_run.specs.FeedRings.{IsPush, IsPut, dropped_by}
-use Rattle.record_run.specs.Inlets.{InletView, IsFitting, HasGiven, IsKept, IsFilled}
+use Rattle.record_run.specs.Inlets.{InletView, HasGiven, IsKept, IsFilled}
+use Rattle.run_model.specs.Fitting.{IsFitting}
 
 -- ---- the ring
 
@@ -282,18 +284,6 @@ filled_all left_of faults_of mark_of batch x now k goes f = record {
   fits = f.fits;
   states = f.states;
 }
-
-pub fault_alone : (e : FeedEnd) → feed_kind e ≡ at_fault → e ≡ ends.ReadFault
-fault_alone ends.Whole k = absurd cc
-fault_alone ends.Limit k = absurd cc
-fault_alone ends.TornReply k = absurd cc
-fault_alone (ends.ReplyRefused at why) k = absurd cc
-fault_alone (ends.TornSample at) k = absurd cc
-fault_alone (ends.BadTag at byte) k = absurd cc
-fault_alone (ends.BadWidth at byte) k = absurd cc
-fault_alone (ends.SampleTooLong at) k = absurd cc
-fault_alone ends.ReadFault k = refl
-fault_alone ends.ByteLimit k = absurd cc
 
 -- the end was given
 pub record IsEnded {S M : Type 0} (left_of : S → Option (List ℕ)) (faults_of : S → ℕ) (mark_of : S → M) (now next : InletView S) (e : FeedEnd) : Type 0 where

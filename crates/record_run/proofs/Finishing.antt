@@ -1,44 +1,34 @@
 -- The end of a run.
-use Rattle.std.proofs.Common.{◌≡◌, ℕ, zero, suc, ◌+◌, ◌-◌, ◌*◌, ◌≤◌, List, [], ◌∷◌, length, map, take, slice_get, Option, Some, None, refl, sym, ap, ◌∙◌, subst, arith}
+use Rattle.std.proofs.Common.{◌≡◌, ℕ, zero, suc, ◌-◌, ◌*◌, ◌≤◌, List, [], ◌∷◌, length, map, slice_get, Option, Some, None, refl, sym, ap, ◌∙◌, subst, arith}
 use Rattle.std.specs.List.{AllByRecursion}
-use Rattle.std.proofs.lemmas.List.{take_all, length-map}
 use Rattle.reading_model.specs.Read.{Reader, IsRead}
 use Rattle.xdf_model.specs.Sample.{Sample}
 use Rattle.chunk_grammar.specs.declared.chunk.Chunk.{Chunk}
 use Rattle.inlet_model.specs.declared.end.FeedEnd.{FeedEnd}
 use Rattle.inlet_model.specs.Inlet.{feed_kind}
 use Rattle.ring_model.specs.Ring.{IsReached}
-use Rattle.recording_model.specs.declared.row.Row.{Row}
 use Rattle.recording_model.specs.declared.stream.StreamDoc.{StreamDoc}
-use Rattle.recording_model.specs.Ledger.{stream_samples, ledger_rows}
-use Rattle.recording_model.specs.Batch.{Entry, Batch}
-use Rattle.recording_model.specs.Recording.{IsRecording, lost_in}
+use Rattle.recording_model.specs.Batch.{Batch}
+use Rattle.recording_model.specs.Recording.{IsRecording}
 use Rattle.turns_model.specs.Turns.{first_turns, turn_batches}
 use Rattle.turns_laws.proofs.Enough.{enough}
-use Rattle.loss_model.specs.Loss.{IsFeedPrefix, AreOf, accounted, behind_last, entries_at, entries_without}
-use Rattle.loss_laws.proofs.Feeds.{of_its_feed}
-use Rattle.loss_laws.proofs.Dropped.{dropped_is}
+use Rattle.loss_model.specs.Loss.{behind_last, entries_at}
 use Rattle.loss_laws.proofs.Rings.{all_put}
 use Rattle.record_writer.specs.declared.written.Written.{Written}
 use Rattle.record_writer.specs.Desk.{DeskState}
 use Rattle.record_writer.specs.Standing.{IsFinished}
-use Rattle.record_run.specs.declared.feed.FeedSource.{FeedSource}
-use Rattle.record_run.specs.declared.report.FeedReport.{FeedReport}
-use Rattle.record_run.specs.Run.{feed_of, Fed, IsFed, report_of}
-use Rattle.record_run.specs.Rings.{ring_entry}
+use Rattle.run_model.specs.declared.feed.FeedSource.{FeedSource}
+use Rattle.run_model.specs.declared.report.FeedReport.{FeedReport}
+use Rattle.run_model.specs.Run.{feed_of, Fed, IsFed, report_of}
+use Rattle.run_model.specs.Rings.{ring_entry}
 use Rattle.record_run.specs.Kept.{kept_up_to}
 use Rattle.record_run.specs.Inlets.{InletView, HasGiven}
-use Rattle.record_run.specs.Outcomes.{IsRecorded}
+use Rattle.plan_model.specs.declared.plan.Mode.TheVariants.{Turns}
+use Rattle.run_model.specs.Outcomes.{IsRecorded}
+use Rattle.run_model.proofs.BothModes.{by_turns}
+use Rattle.run_model.proofs.Fed.{fed_is as is_fed, report_is as is_reported}
 use Rattle.record_run.specs.Turning.{IsTurned, AreTurned, HaveEnded, end_or, report_in}
-use Rattle.record_run.proofs.Slabs.{kept_are}
 use Rattle.record_run.proofs.Beside.{entries_turns}
-
-abbrev report : ℕ → ℕ → ℕ → ℕ → FeedEnd → FeedReport
-report i a c m e = record { id = i; received = a; kept = c; lost = m; end = e }
-
-same_report : (i j a b c d m n : ℕ) (e f : FeedEnd) → i ≡ j → a ≡ b → c ≡ d → m ≡ n → e ≡ f → report i a c m e ≡ report j b d n f
-same_report i j a b c d m n e f p q r s t =
-    ap (λ (v : ℕ). report v a c m e) p ∙ ap (λ (v : ℕ). report j v c m e) q ∙ ap (λ (v : ℕ). report j b v m e) r ∙ ap (λ (v : ℕ). report j b d v e) s ∙ ap (report j b d n) t
 
 -- ---- one feed
 
@@ -67,23 +57,11 @@ module _ {S M : Type 0} (left_of : S → Option (List ℕ)) (faults_of : S → �
     entries : entries_at place batches ≡ kept_up_to ring batch samples turns
     entries = ap (entries_at place) (sym enough_turns) ∙ entries_turns ring batch place turns lists samples has_list
 
-    are_of : AreOf samples (entries_at place batches)
-    are_of = subst (AreOf samples) (sym entries) (kept_are ring batch turns samples)
+    taken : map ring_entry k.state.taken ≡ entries_at place batches
+    taken = k.taken ∙ sym entries
 
-    abbrev rows : List Row
-    rows = ledger_rows stream.id chunks
-
-    law : IsFeedPrefix samples chunks stream.id × (accounted stream.id chunks ≡ behind_last (entries_at place batches)) × (entries_at place batches ≡ entries_without rows (take (accounted stream.id chunks) samples))
-    law = of_its_feed streams batches chunks place stream samples recording has_stream are_of (omega (arith, k.bounded))
-
-    all : accounted stream.id chunks ≡ length samples
-    all = law.1 ∙ ap behind_last entries ∙ k.behind
-
-    given : entries_at place batches ≡ entries_without rows samples
-    given = law.2 ∙ ap (λ (n : ℕ). entries_without rows (take n samples)) all ∙ ap (entries_without rows) (take_all (length samples) samples (omega arith))
-
-    gave : map ring_entry k.state.taken ≡ entries_without rows samples
-    gave = k.taken ∙ sym entries ∙ given
+    behind : behind_last (map ring_entry k.state.taken) ≡ length samples
+    behind = ap behind_last k.taken ∙ k.behind
 
     empty : k.state.queue ≡ []
     empty = sym k.stands.queue ∙ k.queue
@@ -91,40 +69,26 @@ module _ {S M : Type 0} (left_of : S → Option (List ℕ)) (faults_of : S → �
     reached : IsReached ring k.state
     reached = subst (λ (n : ℕ). IsReached n k.state) k.capacity k.stands.reached
 
-    -- how many are in the file, and how many the ring dropped
-    kept_count : length (stream_samples stream.id chunks) ≡ length k.state.taken
-    kept_count =
-        let one = ap length law.0.kept ∙ length-map (entries_without rows (take (accounted stream.id chunks) samples)) (λ (f : Entry). f.sample) in
-        let two = ap length (sym law.2 ∙ given ∙ sym gave) ∙ length-map k.state.taken ring_entry in
-        one ∙ two
+    read : IsRead left_of faults_of mark_of feed_kind (feed_of stream feed) feed.source x.source samples e
+    read = read_by (feed_of stream feed) feed.source x samples e x.end is k.given k.marked k.later
 
-    counts : length k.state.taken + length k.state.dropped ≡ length samples
-    counts = let sum = (all_put ring k.state reached).3 in let none = ap length empty in let puts = ap length k.puts in omega (arith, sum, none, puts)
-
-    pub lost_count : lost_in stream.id chunks ≡ x.drops
-    lost_count = omega (arith, all, kept_count, counts, k.drops)
+    few : length k.state.dropped ≤ length samples - ring
+    few = omega (arith, k.drops, k.few)
 
     pub fed_is : IsFed left_of faults_of mark_of ring batches chunks place (record { stream = stream; feed = feed; last = x.source; samples = samples; end = e })
-    fed_is = record {
-      read = read_by (feed_of stream feed) feed.source x samples e x.end is k.given k.marked k.later;
-      whole = record { prefix = law.0; all = all };
-      dropped = record {
-        state = k.state;
-        reached = reached;
-        puts = k.puts;
-        queue = empty;
-        taken = k.taken ∙ sym entries;
-        dropped = dropped_is ring k.state rows samples reached k.puts empty gave;
-      };
-      few = omega (arith, lost_count, k.few);
-    }
+    fed_is = is_fed left_of faults_of mark_of ring place streams batches chunks stream feed samples x.source e k.state recording has_stream reached k.puts empty taken behind few (omega (arith, k.bounded)) read
+
+    -- what the ring gave is what it didn't drop
+    kept : x.ring.pushes - x.drops ≡ length k.state.taken
+    kept =
+        let sum = (all_put ring k.state reached).3 in
+        let none = ap length empty in
+        let puts = ap length k.puts in
+        omega (arith, sum, none, puts, k.drops, k.pushes)
 
     pub report_is : report_in x ≡ report_of chunks (record { stream = stream; feed = feed; last = x.source; samples = samples; end = e })
-    report_is =
-        let kept : x.ring.pushes - x.drops ≡ length (stream_samples stream.id chunks) = omega (arith, all, lost_count, k.pushes) in
-        let last : end_or x.end ≡ e = ap end_or is in
-        same_report x.id stream.id x.ring.pushes (length samples) (x.ring.pushes - x.drops) (length (stream_samples stream.id chunks)) x.drops (lost_in stream.id chunks) (end_or x.end) e
-        k.id k.pushes kept (sym lost_count) last
+    report_is = is_reported left_of faults_of mark_of ring place streams batches chunks stream feed samples x.source e k.state recording has_stream reached k.puts empty taken behind few (omega (arith, k.bounded)) read
+        x.id x.ring.pushes (x.ring.pushes - x.drops) x.drops (end_or x.end) k.id k.pushes kept (sym k.drops) (ap end_or is)
 
 -- ---- all feeds
 
@@ -210,7 +174,7 @@ module _ {S M : Type 0} (left_of : S → Option (List ℕ)) (faults_of : S → �
   -- the file was finished
   pub recorded_is : (ring batch turns : ℕ) (streams : List StreamDoc) (feeds : List (FeedSource S)) (base held now : Option (List ℕ)) (desk : DeskState) (lists : List (List Sample)) (xs : List (InletView S)) (w : Written)
       → 1 ≤ ring → 1 ≤ batch → AreTurned left_of faults_of mark_of ring batch turns streams feeds base held desk lists xs → HaveEnded xs → IsFinished streams base now (first_turns ring batch lists turns) w
-      → IsRecorded left_of faults_of mark_of ring batch streams feeds base now (map report_in xs) w.bytes w.chunks (map (λ (x : InletView S). x.source) xs)
+      → IsRecorded left_of faults_of mark_of Turns ring batch streams feeds base now (map report_in xs) w.bytes w.chunks (map (λ (x : InletView S). x.source) xs)
   recorded_is ring batch turns streams feeds base held now desk lists xs w low some k over f =
       let fed = all_fed streams feeds lists xs in
       let short = list_short ring batch turns streams feeds lists xs k.feed_count k.list_count k.inlet_count (λ p s d l x i j m n. (k.each p s d l x i j m n).short) in
@@ -222,7 +186,7 @@ module _ {S M : Type 0} (left_of : S → Option (List ℕ)) (faults_of : S → �
       record {
         fed = fed;
         chunks = f.chunks;
-        run = record {
+        run = by_turns left_of faults_of mark_of ring batch streams feeds fed f.chunks (record {
           each_stream = fed_streams streams feeds lists xs k.feed_count k.list_count k.inlet_count;
           each_feed = fed_feeds streams feeds lists xs k.feed_count k.list_count k.inlet_count;
           recording = subst P (sym lists_are) recording;
@@ -232,7 +196,7 @@ module _ {S M : Type 0} (left_of : S → Option (List ℕ)) (faults_of : S → �
               let Q : List (List Sample) → Type 0 = λ ls. IsFed left_of faults_of mark_of ring (turn_batches ring batch ls) f.chunks p y in
               subst Q (sym lists_are) (subst (λ (z : Fed S). IsFed left_of faults_of mark_of ring (turn_batches ring batch lists) f.chunks p z) (sym m.8)
               (fed_is left_of faults_of mark_of ring batch turns p streams lists f.chunks m.0 m.1 m.2 m.3 (end_or m.3.end) low some (k.each p m.0 m.1 m.2 m.3 m.4 m.5 m.6 m.7) (ended p m.3 m.7) recording all_turns m.4 m.6));
-        };
+        });
         written = f.all;
         told = reports_same f.chunks streams feeds lists xs k.feed_count k.list_count k.inlet_count (λ p s d l x i j m n.
             report_is left_of faults_of mark_of ring batch turns p streams lists f.chunks s d l x (end_or x.end) low some (k.each p s d l x i j m n) (ended p x n) recording all_turns i m);

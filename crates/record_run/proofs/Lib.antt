@@ -7,5 +7,3 @@ pub mod Finishing
 pub mod Filling
 pub mod Draining
 pub mod Blocks
-pub mod Shapes
-pub mod Handing

@@ -1,7 +1,6 @@
 -- Before the first turn, and what holds between two turns.
-use Rattle.std.proofs.Common.{◌≡◌, ◌⊎◌, inl, inr, ℕ, zero, suc, ◌+◌, ◌*◌, ◌<◌, ◌≤◌, List, [], ◌∷◌, ◌++◌, length, map, drop, slice_get, Option, Some, None, false, refl, sym, ap, ◌∙◌, subst, arith}
+use Rattle.std.proofs.Common.{◌≡◌, inl, inr, ℕ, zero, suc, ◌+◌, ◌*◌, ◌≤◌, List, [], ◌∷◌, ◌++◌, length, map, slice_get, Option, Some, None, false, refl, sym, ap, ◌∙◌, subst, arith}
 use Rattle.std.proofs.lemmas.Option.{slice_get_within}
-use Rattle.std.proofs.lemmas.List.{drop-drop}
 use Rattle.std.proofs.Math.Nat.{mul-le-mul_left}
 use Rattle.reading_model.specs.Outlook.{How}
 use Rattle.piece_reader.proofs.Ending.{begun_fresh}
@@ -10,19 +9,21 @@ use Rattle.xdf_model.specs.Sample.{Sample, size_of}
 use Rattle.feed_samples.specs.Inlet.{outlook}
 use Rattle.ring_model.specs.Ring.{new_ring}
 use Rattle.recording_model.specs.declared.stream.StreamDoc.{StreamDoc}
-use Rattle.recording_model.specs.Batch.{Batch}
 use Rattle.record_writer.specs.declared.place.Place.{Place}
 use Rattle.record_writer.specs.Desk.{DeskState, next_in, next_at, new_place}
 use Rattle.record_writer.specs.Standing.{StandsFor, IsCut, IsReady}
 use Rattle.record_writer.proofs.Stopped.{stands_cut}
 use Rattle.turns_model.specs.Turns.{first_turns}
-use Rattle.record_run.specs.declared.feed.FeedSource.{FeedSource}
-use Rattle.record_run.specs.Run.{byte_limit, feed_of}
-use Rattle.record_run.specs.Outcomes.{IsCutOff}
+use Rattle.run_model.specs.declared.feed.FeedSource.{FeedSource}
+use Rattle.run_model.specs.Run.{byte_limit, feed_of}
+use Rattle.thread_run.specs.declared.work.Work.{Work}
+use Rattle.thread_run.specs.declared.lane.CountedHead.{CountedHead}
+use Rattle.thread_run.specs.Opening.{ThreadsView, IsNewLane, AreThreadsFor}
 use Rattle.record_run.specs.Inlets.{InletView, HasGiven, AreNumeric}
-use Rattle.record_run.specs.Recorders.{AreNumbers, RecorderView, IsNewInlet, IsOpenFor}
+use Rattle.run_model.specs.Fitting.{AreNumbers}
+use Rattle.record_run.specs.Opening.{TurnsView, IsNewInlet, AreTurnsFor}
 use Rattle.record_run.specs.Turning.{IsTurned, AreTurned}
-use Rattle.record_run.proofs.Stepping.{item_at}
+use Rattle.run_model.proofs.Lists.{item_at, push_cases}
 
 next_new : (streams : List StreamDoc) (p : ℕ) → next_in (slice_get (map new_place streams) p) ≡ 0
 next_new [] p = refl
@@ -44,10 +45,6 @@ nothing_at : (streams : List StreamDoc) (p : ℕ) (l : List Sample) → slice_ge
 nothing_at [] p l e = absurd cc
 nothing_at (s ∷ streams) zero l e = sym (cc e)
 nothing_at (s ∷ streams) (suc p) l e = nothing_at streams p l e
-
--- a front of some recording
-pub cut_off : (streams : List StreamDoc) (base held : Option (List ℕ)) (batches : List Batch) → IsCut streams base held batches → IsCutOff streams base held
-cut_off streams base held batches k = record { batches = batches; chunks = k.chunks; recording = k.recording; front = k.front }
 
 module _ {S M : Type 0} (left_of : S → Option (List ℕ)) (faults_of : S → ℕ) (mark_of : S → M) where
   given_none : (stream : StreamDoc) (feed : FeedSource S) (x : InletView S) (e : Option _) → e ≡ None → x.source ≡ feed.source → ((more : List ℕ) (how : How) → (outlook x.inlet).coming more how ≡ feed_of stream feed more how)
@@ -78,7 +75,7 @@ module _ {S M : Type 0} (left_of : S → Option (List ℕ)) (faults_of : S → �
   }
 
   -- the headers were written, and nothing was read
-  pub opened_turned : (ring batch : ℕ) (streams : List StreamDoc) (feeds : List (FeedSource S)) (r : RecorderView S) (base held : Option (List ℕ)) → IsOpenFor ring batch streams feeds r
+  pub opened_turned : (ring batch : ℕ) (streams : List StreamDoc) (feeds : List (FeedSource S)) (r : TurnsView S) (base held : Option (List ℕ)) → AreTurnsFor ring batch streams feeds r
       → StandsFor streams base held r.desk [] None → (lists : List (List Sample)) × AreTurned left_of faults_of mark_of ring batch 0 streams feeds base held r.desk lists r.inlets
   opened_turned ring batch streams feeds r base held k stands = (
     nothing streams,
@@ -126,21 +123,6 @@ module _ {S M : Type 0} (left_of : S → Option (List ℕ)) (faults_of : S → �
 
 -- ---- opening
 
-pub push_cases : {A : Type 0} (xs : List A) (y z : A) (p : ℕ) → slice_get (xs ++ y ∷ []) p ≡ Some z → ((p < length xs) × (slice_get xs p ≡ Some z)) ⊎ ((p ≡ length xs) × (y ≡ z))
-push_cases [] y z zero e = inr (refl, cc e)
-push_cases [] y z (suc p) e = absurd cc
-push_cases (x ∷ xs) y z zero e = inl (omega arith, e)
-push_cases (x ∷ xs) y z (suc p) e = elim (push_cases xs y z p e) [ inl k ↦ inl (omega (arith, k.0), k.1) | inr k ↦ inr (ap suc k.0, k.1) ]
-
--- one more feed was taken off the front of those that are left
-pub drop_next : {A : Type 0} (n : ℕ) (xs : List A) → drop 1 (drop n xs) ≡ drop (n + 1) xs
-drop_next n xs = drop-drop 1 n xs
-
-pub front_at : {A : Type 0} (n : ℕ) (xs : List A) → slice_get (drop n xs) 0 ≡ slice_get xs n
-front_at zero xs = refl
-front_at (suc n) [] = refl
-front_at (suc n) (x ∷ xs) = front_at n xs
-
 pub opened_next : {S : Type 0} (ring n : ℕ) (streams : List StreamDoc) (feeds : List (FeedSource S)) (xs : List (InletView S)) (s : StreamDoc) (d : FeedSource S) (x : InletView S) → length xs ≡ n
     → ((p : ℕ) (t : StreamDoc) (f : FeedSource S) (y : InletView S) → slice_get streams p ≡ Some t → slice_get feeds p ≡ Some f → slice_get xs p ≡ Some y → IsNewInlet ring t f y)
     → slice_get streams n ≡ Some s → slice_get feeds n ≡ Some d → IsNewInlet ring s d x
@@ -157,7 +139,7 @@ opened_next {S = S} ring n streams feeds xs s d x count each at there new p t f 
 pub open_for : {S : Type 0} (ring batch : ℕ) (streams : List StreamDoc) (feeds : List (FeedSource S)) (xs : List (InletView S)) (desk : DeskState) (first second : List StreamDoc)
     → first ≡ streams → second ≡ streams → 1 ≤ ring → 1 ≤ batch → IsReady first desk → desk.places ≡ map new_place first → length feeds ≡ length streams → length xs ≡ length second
     → ((p : ℕ) (s : StreamDoc) (d : FeedSource S) (x : InletView S) → slice_get second p ≡ Some s → slice_get feeds p ≡ Some d → slice_get xs p ≡ Some x → IsNewInlet ring s d x)
-    → IsOpenFor ring batch streams feeds (record { inlets = xs; desk = desk; batch = batch })
+    → AreTurnsFor ring batch streams feeds (record { inlets = xs; desk = desk; batch = batch })
 open_for ring batch streams feeds xs desk first second a b low some ready places feed_count count each = record {
   low = low;
   some = some;
@@ -167,4 +149,21 @@ open_for ring batch streams feeds xs desk first second a b low some ready places
   feed_count = feed_count;
   inlet_count = count ∙ ap length b;
   each = λ p s d x es ed ex. each p s d x (ap (λ (l : List StreamDoc). slice_get l p) b ∙ es) ed ex;
+}
+
+-- so for feeds by threads
+pub threads_for : {S : Type 0} (ring batch : ℕ) (streams : List StreamDoc) (feeds : List (FeedSource S)) (v : ThreadsView S) (desk : DeskState) (first second : List StreamDoc)
+    → first ≡ streams → second ≡ streams → 1 ≤ ring → 1 ≤ batch → IsReady first desk → desk.places ≡ map new_place first → length feeds ≡ length streams
+    → (length v.works ≡ length second) × (length v.heads ≡ length second)
+    → ((p : ℕ) (s : StreamDoc) (d : FeedSource S) (w : Work S) (h : CountedHead) → slice_get second p ≡ Some s → slice_get feeds p ≡ Some d → slice_get v.works p ≡ Some w → slice_get v.heads p ≡ Some h → IsNewLane ring s d w h)
+    → AreThreadsFor ring batch streams feeds desk v
+threads_for ring batch streams feeds v desk first second a b low some ready places feed_count counts each = record {
+  low = low;
+  some = some;
+  ready = subst (λ (l : List StreamDoc). IsReady l desk) a ready;
+  places = places ∙ ap (map new_place) a;
+  feed_count = feed_count;
+  work_count = counts.0 ∙ ap length b;
+  head_count = counts.1 ∙ ap length b;
+  each = λ p s d w h es ed ew eh. each p s d w h (ap (λ (l : List StreamDoc). slice_get l p) b ∙ es) ed ew eh;
 }

@@ -1,5 +1,5 @@
 -- One more turn.
-use Rattle.std.proofs.Common.{◌≡◌, inl, inr, ℕ, zero, suc, ◌+◌, ◌-◌, ◌*◌, ◌<◌, ◌≤◌, List, [], ◌∷◌, ◌++◌, length, map, drop, slice_get, Option, Some, None, refl, sym, ap, ◌∙◌, subst, arith, length-append, length-drop}
+use Rattle.std.proofs.Common.{◌≡◌, inl, inr, ℕ, zero, suc, ◌+◌, ◌-◌, ◌*◌, ◌≤◌, List, [], ◌∷◌, ◌++◌, length, map, drop, slice_get, Option, Some, None, refl, sym, ap, ◌∙◌, subst, arith, length-append, length-drop}
 use Rattle.std.specs.List.{AllByRecursion}
 use Rattle.std.proofs.lemmas.Option.{slice_get_within}
 use Rattle.reading_model.specs.Read.{Reader}
@@ -13,30 +13,22 @@ use Rattle.turns_laws.specs.Slabs.{last_of}
 use Rattle.loss_model.specs.Loss.{behind_last}
 use Rattle.record_writer.specs.Desk.{DeskState, next_at, shapes_of}
 use Rattle.record_writer.specs.Standing.{StandsFor, IsClosed}
-use Rattle.record_run.specs.declared.feed.FeedSource.{FeedSource}
-use Rattle.record_run.specs.Run.{feed_of}
-use Rattle.record_run.specs.Rings.{ring_entry}
+use Rattle.run_model.specs.declared.feed.FeedSource.{FeedSource}
+use Rattle.run_model.specs.Run.{feed_of}
+use Rattle.run_model.specs.Rings.{ring_entry}
+use Rattle.run_model.proofs.Lists.{item_at, map_at}
 use Rattle.record_run.specs.Kept.{kept_up_to}
-use Rattle.record_run.specs.Inlets.{InletView, HasGiven, IsFitting, IsFilled, IsDrained, AreNumeric, AreWaiting, AreWaitingAll, waiting_batches}
+use Rattle.record_run.specs.Inlets.{InletView, HasGiven, IsFilled, IsDrained, AreNumeric, AreWaiting, AreWaitingAll, waiting_batches}
+use Rattle.run_model.specs.Fitting.{IsFitting}
 use Rattle.record_run.specs.Turning.{IsTurned, AreTurned}
 use Rattle.record_run.proofs.Slabs.{HasGrown, kept_here, kept_grows, waits, behind_grows}
 use Rattle.record_run.proofs.Beside.{AreGrown, turns_same, waiting_is_turn}
 
 -- ---- small facts
 
-pub item_at : {A : Type 0} (xs : List A) (p : ℕ) → p < length xs → (x : A) × (slice_get xs p ≡ Some x)
-item_at [] p low = absurd (omega (arith, low))
-item_at (x ∷ xs) zero low = (x, refl)
-item_at (x ∷ xs) (suc p) low = item_at xs p (omega (arith, low))
-
 map_both : {A B : Type 0} (f : A → B) (xs ys : List A) → map f (xs ++ ys) ≡ map f xs ++ map f ys
 map_both f [] ys = refl
 map_both f (x ∷ xs) ys = ap (λ (l : List _). f x ∷ l) (map_both f xs ys)
-
-pub map_at : {A B : Type 0} (f : A → B) (xs : List A) (p : ℕ) (x : A) → slice_get xs p ≡ Some x → slice_get (map f xs) p ≡ Some (f x)
-map_at f [] p x e = absurd cc
-map_at f (y ∷ xs) zero x e = ap Some (ap f (cc e))
-map_at f (y ∷ xs) (suc p) x e = map_at f xs p x e
 
 all_drop : {A : Type 0} (P : A → Type 0) (n : ℕ) (xs : List A) → AllByRecursion P xs → AllByRecursion P (drop n xs)
 all_drop P zero xs h = h

@@ -7,13 +7,9 @@ use Rattle.feed_samples.specs.declared.step.FeedStep.TheVariants as step
 use Rattle.ring_model.specs.Ring.{RingState, RingRun}
 use Rattle.ring_model.specs.declared.entry.Entry.{Entry as RingEntry}
 use Rattle.inlet_ring.specs.Lone.{Lone, StandsFor as RingStandsFor, is_full, with_room, push_events, take_events}
-use Rattle.std.specs.Prelude.{slice_get, length, drop, Option, Some, List, sum_by, ◌<◌, ◌^◌, ◌==◌, Bool, true, false}
-use Rattle.xdf_model.specs.Sample.{FitsShape}
-use Rattle.feed_model.specs.Feed.{text_size, text_limit}
-use Rattle.recording_model.specs.declared.stream.StreamDoc.{StreamDoc}
-use Rattle.recording_model.specs.Batch.{Batch}
-use Rattle.record_writer.specs.Desk.{DeskState, next_at, shapes_of}
-use Rattle.record_writer.specs.Standing.{StandsFor, with_entry}
+use Rattle.std.specs.Prelude.{slice_get, length, drop, Option, Some, List, Bool, true, false}
+use Rattle.record_writer.specs.Desk.{DeskState}
+use Rattle.run_model.specs.Putting.{IsOnePut}
 use Rattle.record_run.specs.declared.ring.Rooms.{Rooms}
 use Rattle.record_run.specs.declared.ring.Rooms.TheVariants.{Numbers, Texts}
 use Rattle.record_run.specs.declared.ring.Given.{Given}
@@ -63,19 +59,6 @@ IsPut old new (step.End e) given.Memory = ⊥
 IsPut old new step.Memory (given.Sample drops) = ⊥
 IsPut old new step.Memory (given.End e) = ⊥
 IsPut old new step.Memory given.Memory = new ≡ old
-
--- the writer takes this sample at this position of the stream at a place, whose shape this is
-abbrev pub IsTakenAt : DeskState → ℕ → Shape → RingEntry Sample → Type 0
-IsTakenAt desk place shape e = (e.position < 2 ^ 41) × (next_at desk place ≤ e.position) × (slice_get (shapes_of desk) place ≡ Some shape) × FitsShape shape e.value × (sum_by text_size e.value.values ≤ text_limit)
-
--- a sample was put to the writer
-pub record IsOnePut (place position : ℕ) (s : Sample) (before after : DeskState) (held_before held_after : Option (List ℕ)) : Type 0 where
-  pub put : (streams : List StreamDoc) (base : Option (List ℕ)) (batches : List Batch) (current : Option Batch) → StandsFor streams base held_before before batches current
-      → StandsFor streams base held_after after batches (Some (with_entry place current position s))
-  pub next : (p : ℕ) → next_at after p ≡ (if p == place then position + 1 else next_at before p)
-  pub shapes : shapes_of after ≡ shapes_of before
-  pub place_is : after.place ≡ place
-  pub whole : after.broken ≡ false
 
 -- the oldest sample of a ring was put, or there is none
 abbrev pub IsOut : Lone Sample → Lone Sample → ℕ → DeskState → DeskState → Option (List ℕ) → Option (List ℕ) → Bool → Type 0

@@ -1,5 +1,5 @@
 -- An inlet: the reader of a feed with the ring behind it, and what a turn does to it.
-use Rattle.std.specs.Prelude.{◌≡◌, ℕ, ◌+◌, ◌-◌, ◌≤◌, List, [], ◌∷◌, ◌++◌, length, map, sum_by, slice_get, Option, None, Some}
+use Rattle.std.specs.Prelude.{◌≡◌, ℕ, ◌+◌, ◌-◌, ◌≤◌, List, [], ◌∷◌, ◌++◌, length, map, slice_get, Option, None, Some}
 use Rattle.std.specs.List.{AllByRecursion}
 use Rattle.std.specs.Io.KnownBytes.{Consumes}
 use Rattle.rec_base.specs.Causes.{Rose}
@@ -8,8 +8,7 @@ use Rattle.reading_model.specs.Read.{Reader, EndsSo}
 use Rattle.piece_reader.specs.Steps.{Begun}
 use Rattle.piece_reader.proofs.Ending.{fresh}
 use Rattle.xdf_model.specs.declared.types.Shape.{Shape}
-use Rattle.xdf_model.specs.Sample.{Sample, FitsShape, size_of}
-use Rattle.feed_model.specs.Feed.{text_size, text_limit}
+use Rattle.xdf_model.specs.Sample.{Sample, size_of}
 use Rattle.inlet_model.specs.declared.end.FeedEnd.{FeedEnd}
 use Rattle.inlet_model.specs.Inlet.{feed_kind}
 use Rattle.feed_samples.specs.Inlet.{InletState, outlook}
@@ -19,12 +18,9 @@ use Rattle.recording_model.specs.Batch.{Batch, entries_from}
 use Rattle.turns_model.specs.Turns.{batch_of}
 use Rattle.turns_laws.specs.Slabs.{last_of}
 use Rattle.record_writer.specs.Desk.{DeskState, next_at, shapes_of}
-use Rattle.record_run.specs.Run.{byte_limit}
-use Rattle.record_run.specs.Rings.{ring_entry}
-
--- a sample that the writer takes
-abbrev pub IsFitting : Shape → Sample → Type 0
-IsFitting shape s = FitsShape shape s × (sum_by text_size s.values ≤ text_limit)
+use Rattle.run_model.specs.Run.{byte_limit}
+use Rattle.run_model.specs.Fitting.{IsFitting}
+use Rattle.run_model.specs.Rings.{ring_entry}
 
 -- an inlet, as contracts of this crate see it: the id of its stream, its source, how far that is read, the end if it was met, its ring, and how
 -- many entries that dropped

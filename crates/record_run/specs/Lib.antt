@@ -1,9 +1,7 @@
 pub mod Cost
-pub mod Rings
 pub mod FeedRings
-pub mod Run
 pub mod Kept
 pub mod Inlets
 pub mod Turning
+pub mod Opening
 pub mod Recorders
-pub mod Outcomes

@@ -1,57 +1,33 @@
--- A recorder that is open: what it was made of, before anything is read.
-use Rattle.std.specs.Prelude.{◌≡◌, ℕ, ◌≤◌, false, List, [], length, map, slice_get, None, Some}
-use Rattle.reading_model.specs.Outlook.{How}
-use Rattle.xdf_model.specs.Sample.{size_of}
-use Rattle.feed_samples.specs.Inlet.{outlook}
-use Rattle.ring_model.specs.Ring.{new_ring}
-use Rattle.inlet_ring.specs.Lone.{StandsFor}
+-- A recorder that is open, in either mode. This project's own.
+use Rattle.std.specs.Prelude.{◌≡◌, ℕ, List, ⊤}
+use Rattle.plan_model.specs.declared.plan.Mode.{Mode}
+use Rattle.plan_model.specs.declared.plan.Mode.TheVariants.{Threads, Turns}
 use Rattle.recording_model.specs.declared.stream.StreamDoc.{StreamDoc}
-use Rattle.record_writer.specs.Desk.{DeskState, new_place}
-use Rattle.record_writer.specs.Standing.{IsReady}
-use Rattle.record_run.specs.declared.feed.FeedSource.{FeedSource}
-use Rattle.record_run.specs.Run.{feed_of}
-use Rattle.record_run.specs.Inlets.{InletView}
+use Rattle.run_model.specs.declared.feed.FeedSource.{FeedSource}
+use Rattle.thread_run.specs.Opening.{AreThreadsFor}
+use Rattle.record_run.specs.Opening.{TurnsView, AreTurnsFor, ThreadsRoom}
+use Rattle.record_run.specs.declared.recorder.Modes.{Modes}
+use Rattle.record_run.specs.declared.recorder.Modes.TheVariants as modes
 
--- the inlet has read nothing of this feed, whose samples become this stream
-pub record IsNewInlet {S : Type 0} (ring : ℕ) (stream : StreamDoc) (feed : FeedSource S) (x : InletView S) : Type 0 where
-  pub all : (more : List ℕ) (how : How) → (outlook x.inlet).coming more how ≡ feed_of stream feed more how
-  pub goes : (outlook x.inlet).is_over ≡ false
-  pub id : x.id ≡ stream.id
-  pub shape : x.inlet.shape ≡ stream.shape
-  pub source : x.source ≡ feed.source
-  pub end : x.end ≡ None
-  pub drops : x.drops ≡ 0
-  pub capacity : x.ring.capacity ≡ ring
-  pub pushes : x.ring.pushes ≡ 0
-  pub queue : x.ring.queue ≡ []
-  pub stands : StandsFor x.ring new_ring
+-- a recorder, as contracts see it
+pub data RecorderView (S : Type 0) : Type 0 where
+  by_turns : TurnsView S → RecorderView S
+  by_threads : ThreadsRoom S → RecorderView S
 
--- a recorder, as contracts see it: its inlets, what the writer keeps, and how many samples a turn reads of a feed
-pub record RecorderView (S : Type 0) : Type 0 where
-  pub inlets : List (InletView S)
-  pub desk : DeskState
-  pub batch : ℕ
+abbrev pub view_in : {S : Type 0} → Modes S → RecorderView S
+view_in (modes.Turns r) = by_turns r
+view_in (modes.Threads r) = by_threads r
 
--- the recorder is to record these feeds as these streams, with rings and batches of these sizes
-pub record IsOpenFor {S : Type 0} (ring batch : ℕ) (streams : List StreamDoc) (feeds : List (FeedSource S)) (r : RecorderView S) : Type 0 where
-  pub low : 1 ≤ ring
-  pub some : 1 ≤ batch
-  pub same_batch : r.batch ≡ batch
-  pub ready : IsReady streams r.desk
-  pub places : r.desk.places ≡ map new_place streams
-  pub feed_count : length feeds ≡ length streams
-  pub inlet_count : length r.inlets ≡ length streams
-  pub each : (place : ℕ) (stream : StreamDoc) (feed : FeedSource S) (x : InletView S) → slice_get streams place ≡ Some stream → slice_get feeds place ≡ Some feed
-      → slice_get r.inlets place ≡ Some x → IsNewInlet ring stream feed x
+-- the recorder records in this mode
+abbrev pub IsIn : {S : Type 0} → Mode → RecorderView S → Type 0
+IsIn Turns (by_turns r) = ⊤
+IsIn Turns (by_threads r) = ⊥
+IsIn Threads (by_turns r) = ⊥
+IsIn Threads (by_threads r) = ⊤
 
--- it is to record some feeds
-pub record IsOpen {S : Type 0} (r : RecorderView S) : Type 0 where
-  pub ring : ℕ
-  pub batch : ℕ
-  pub streams : List StreamDoc
-  pub feeds : List (FeedSource S)
-  pub is : IsOpenFor ring batch streams feeds r
-
--- every stream is one of numbers
-abbrev pub AreNumbers : List StreamDoc → Type 0
-AreNumbers streams = (p : ℕ) (s : StreamDoc) → slice_get streams p ≡ Some s → 1 ≤ size_of s.shape.format
+-- the recorder is to record these feeds as these streams in this mode, with rings and batches of these sizes
+abbrev pub IsOpenFor : {S : Type 0} → Mode → ℕ → ℕ → List StreamDoc → List (FeedSource S) → RecorderView S → Type 0
+IsOpenFor Turns ring batch streams feeds (by_turns r) = AreTurnsFor ring batch streams feeds r
+IsOpenFor Turns ring batch streams feeds (by_threads r) = ⊥
+IsOpenFor Threads ring batch streams feeds (by_turns r) = ⊥
+IsOpenFor Threads ring batch streams feeds (by_threads r) = (r.batch ≡ batch) × AreThreadsFor ring batch streams feeds r.desk r.feeds

@@ -10,10 +10,10 @@ use Rattle.turns_model.specs.Turns.{first_turns}
 use Rattle.loss_model.specs.Loss.{behind_last}
 use Rattle.record_writer.specs.Desk.{DeskState, next_at, shapes_of}
 use Rattle.record_writer.specs.Standing.{StandsFor}
-use Rattle.record_run.specs.declared.feed.FeedSource.{FeedSource}
-use Rattle.record_run.specs.declared.report.FeedReport.{FeedReport}
-use Rattle.record_run.specs.Run.{byte_limit, feed_of}
-use Rattle.record_run.specs.Rings.{ring_entry}
+use Rattle.run_model.specs.declared.feed.FeedSource.{FeedSource}
+use Rattle.run_model.specs.declared.report.FeedReport.{FeedReport}
+use Rattle.run_model.specs.Run.{byte_limit, feed_of}
+use Rattle.run_model.specs.Rings.{ring_entry}
 use Rattle.record_run.specs.Kept.{kept_up_to}
 use Rattle.record_run.specs.Inlets.{InletView, HasGiven}
 

@@ -1,119 +1,64 @@
 //! A recorder: the feeds of a recording with all that is needed to record them.
 
-ghost use Rattle.std.specs.Prelude.{◌≡◌, ◌≢◌, ◌≤◌, ◌<◌, ◌++◌, ◌∷◌, [], ℕ, List, length, map, slice_get, vec_capacity, Some, IfOk};
+ghost use Rattle.std.specs.Prelude.{◌≡◌, ◌≢◌, ◌≤◌, ℕ, List, length, IfOk};
 ghost use Rattle.std.specs.List.{AllByRecursion};
 ghost use Rattle.rec_base.specs.Causes.{Rose};
+ghost use Rattle.plan_model.specs.declared.plan.Mode.TheVariants.{Threads as ByThreads, Turns as ByTurns};
 ghost use Rattle.recording_model.specs.declared.stream.StreamDoc.{StreamDoc as StreamValue};
 ghost use Rattle.recording_model.specs.Recording.{AreStreams};
-ghost use Rattle.record_run.specs.declared.feed.FeedSource.{FeedSource as FeedValue};
-ghost use Rattle.record_run.specs.Inlets.{InletView};
-ghost use Rattle.record_run.specs.Recorders.{AreNumbers, IsNewInlet, IsOpenFor};
-ghost use Rattle.record_run.specs.Outcomes.{IsDone, IsStopped};
+ghost use Rattle.run_model.specs.declared.feed.FeedSource.{FeedSource as FeedValue};
+ghost use Rattle.run_model.specs.Fitting.{AreNumbers};
+ghost use Rattle.run_model.specs.Outcomes.{IsDone, IsStopped};
+ghost use Rattle.record_run.specs.Recorders.{IsIn, IsOpenFor};
 
-use crate::feed::FeedSource;
-use crate::inlet::Inlet;
-use crate::outcome::Outcome;
-use crate::report::FeedReport;
-use crate::sources::SourceList;
-use crate::turns::record;
+use crate::thread_recorder::ThreadRecorder;
+use crate::turn_recorder::TurnRecorder;
+use plan_model::Mode;
 use rec_base::{Memory, Sink, Source};
-use record_writer::{WriterFault, WriterRoom};
 use recording_model::StreamDoc;
+use run_model::{FeedSource, Outcome};
 use std::alloc::Global;
 use std::marker::Model;
+use std::rt::Clock;
+use std::sync::Wait;
+use std::thread::Threads;
 
-/// The feeds of a recording, each with its reader and its ring, and the room of the writer.
+/// A recorder by mode.
+#[derive(Drop)]
+pub(crate) enum Modes<S: Source> {
+    /// By turns, on one thread.
+    Turns(TurnRecorder<S>),
+    /// Each feed in a thread of its own.
+    Threads(ThreadRecorder<S>),
+}
+
+/// The feeds of a recording, and all that is needed to record them in one of the two modes. This
+/// project's own.
 #[derive(Drop)]
 pub struct Recorder<S: Source> {
-    inlets: Vec<Inlet<S>>,
-    room: WriterRoom,
-    // room for what becomes of the feeds, and for their sources
-    reports: Vec<FeedReport>,
-    sources: Vec<S>,
-    batch: u64,
+    modes: Modes<S>,
 }
 
 impl<S: Source> Model for Recorder<S> {
-    ghost use Rattle.record_run.specs.Recorders.{RecorderView, IsOpen};
+    ghost use Rattle.record_run.specs.Recorders.{RecorderView, view_in};
 
     ghost Value = { RecorderView S };
 
-    ghost view = { λ r. record { inlets = r.inlets.items; desk = r.room.desk; batch = r.batch } };
-
-    ghost use Rattle.std.specs.Prelude.{◌≡◌, ◌≤◌, [], length, vec_capacity};
-
-    ghost invariant = { λ r. IsOpen (record { inlets = r.inlets.items; desk = r.room.desk; batch = r.batch })
-        × (r.reports.items ≡ []) × (length r.inlets.items ≤ vec_capacity r.reports)
-        × (r.sources.items ≡ []) × (length r.inlets.items ≤ vec_capacity r.sources) };
-}
-
-// An inlet for each feed.
-fn new_inlets<S: Source + Drop>(
-    alloc: Global,
-    ring: usize,
-    waiting: usize,
-    streams: &[StreamDoc],
-    feeds: Vec<FeedSource<S>>,
-) -> Result<Vec<Inlet<S>>, Memory>
-    requires low { 1 ≤ ring }
-    requires high { ring ≤ 1_048_576 }
-    requires waiting { waiting ≤ 1_048_576 }
-    requires are { AreStreams streams.now }
-    requires feeds { length feeds.items ≡ length streams.now }
-    ensures count { IfOk result (λ inlets. length inlets.items ≡ length streams.now) }
-    ensures each { IfOk result (λ inlets. (place : ℕ) (stream : StreamValue) (feed : FeedValue S) (x : InletView S) → slice_get streams.now place ≡ Some stream
-        → slice_get feeds.items place ≡ Some feed → slice_get inlets.items place ≡ Some x → IsNewInlet ring stream feed x) }
-{
-    let mut feeds = feeds;
-    let mut inlets = Vec::with_capacity(alloc, streams.len())?;
-    for place in 0..streams.len() {
-        // There are few feeds, so moving those behind it costs nothing that counts.
-        let feed = feeds.remove(0);
-        let stream = &streams[place];
-        let inlet = Inlet::new(alloc, stream.id, ring, waiting, stream.shape, feed)?;
-        inlets.push(inlet)?;
-    }
-    Ok(inlets)
-}
-
-// Appends a source where there is room for it.
-fn push_source<S>(sources: &mut Vec<S>, source: S)
-    requires { length sources.old.items < vec_capacity sources.old }
-    ensures items { sources.new.items ≡ sources.old.items ++ source ∷ [] }
-    ensures room { vec_capacity sources.old ≤ vec_capacity sources.new }
-{
-    match sources.push(source) {
-        Ok(()) => {}
-        Err(_) => unreachable!(),
-    }
-}
-
-// The sources of the inlets, into room that was made before.
-fn sources_of<S: Source + Drop>(inlets: Vec<Inlet<S>>, sources: Vec<S>) -> Vec<S>
-    requires empty { sources.items ≡ [] }
-    requires room { length inlets.items ≤ vec_capacity sources }
-    ensures { result.items ≡ map (λ x. x.source) inlets.items }
-{
-    let mut inlets = inlets;
-    let mut sources = sources;
-    let count = inlets.len();
-    for _ in 0..count {
-        // There are few inlets, so moving those behind it costs nothing that counts.
-        push_source(&mut sources, inlets.remove(0).into_source());
-    }
-    sources
+    ghost view = { λ r. view_in r.modes };
 }
 
 impl<S: Source + Send + Drop> Recorder<S> {
     /// A recorder of these feeds, each as the stream at its place. `ring` is the most samples that wait
-    /// in a feed's ring, 1 to 1,048,576, and `batch` the most that are read and written of a feed in a
-    /// turn, 1 to 65,536. There are 1 to 64 streams, whose header documents have at most 1,048,576
-    /// bytes. All memory of the run but that of texts is taken here, `ring` blocks and two more for each
-    /// feed of numbers among it, and nothing is read.
+    /// in a feed's ring, 1 to 1,048,576, and `batch` the most of a feed that are written at once, 1 to
+    /// 65,536; by turns it is also the most that are read of a feed in a turn. There are 1 to 64 streams,
+    /// whose header documents have at most 1,048,576 bytes. All memory of the run but that of texts and
+    /// of the threads themselves is taken here, `ring` blocks and two more for each feed of numbers among
+    /// it, and nothing is read.
     ///
     /// `Memory` comes for want of memory alone; the sources are then given up.
     pub fn open(
         alloc: Global,
+        mode: Mode,
         ring: u64,
         batch: u64,
         streams: Vec<StreamDoc>,
@@ -128,21 +73,15 @@ impl<S: Source + Send + Drop> Recorder<S> {
         requires few { length streams.items ≤ 64 }
         requires short { AllByRecursion (λ s. length s.doc ≤ 1_048_576) streams.items }
         requires feeds { length feeds.items ≡ length streams.items }
-        ensures { IfOk result (λ r. IsOpenFor ring batch streams.items feeds.items r) }
+        ensures { IfOk result (λ r. IsOpenFor mode ring batch streams.items feeds.items r) }
     {
-        let room = WriterRoom::new(alloc, &streams)?;
-        let reports = Vec::with_capacity(alloc, streams.len())?;
-        let sources = Vec::with_capacity(alloc, streams.len())?;
-        // A turn reads no more than a batch, and then takes all of it out of the ring.
-        let waiting = ring.min(batch) as usize;
-        let inlets = new_inlets(alloc, ring as usize, waiting, &streams, feeds)?;
-        Ok(Recorder {
-            inlets,
-            room,
-            reports,
-            sources,
-            batch,
-        })
+        let modes = match mode {
+            Mode::Turns => { Modes::Turns(TurnRecorder::open(alloc, ring, batch, streams, feeds)?) }
+            Mode::Threads => {
+                Modes::Threads(ThreadRecorder::open(alloc, ring, batch, streams, feeds)?)
+            }
+        };
+        Ok(Recorder { modes })
     }
 
     /// Records by turns, on this thread. A turn has two passes over the feeds in order: first each feed
@@ -154,33 +93,74 @@ impl<S: Source + Send + Drop> Recorder<S> {
     /// write of the sink failed in this call, `Memory` for want of memory alone, and never where all feeds
     /// are of numbers; a front of a recording's file went out then.
     pub fn run_turns<K: Sink>(self, sink: &mut K) -> Outcome<S>
-        ensures done { (ring batch : ℕ) (streams : List StreamValue) (feeds : List (FeedValue S)) → IsOpenFor ring batch streams feeds self
-            → IsDone S.left S.faults S.mark ring batch streams feeds (K.held sink.old) (K.held sink.new) result }
-        ensures stopped { (ring batch : ℕ) (streams : List StreamValue) (feeds : List (FeedValue S)) → IsOpenFor ring batch streams feeds self
+        requires mode { IsIn ByTurns self }
+        ensures done { (ring batch : ℕ) (streams : List StreamValue) (feeds : List (FeedValue S)) → IsOpenFor ByTurns ring batch streams feeds self
+            → IsDone S.left S.faults S.mark ByTurns ring batch streams feeds (K.held sink.old) (K.held sink.new) result }
+        ensures stopped { (ring batch : ℕ) (streams : List StreamValue) (feeds : List (FeedValue S)) → IsOpenFor ByTurns ring batch streams feeds self
             → IsStopped streams (K.held sink.old) (K.held sink.new) result }
-        ensures memory { (ring batch : ℕ) (streams : List StreamValue) (feeds : List (FeedValue S)) → IsOpenFor ring batch streams feeds self
+        ensures memory { (ring batch : ℕ) (streams : List StreamValue) (feeds : List (FeedValue S)) → IsOpenFor ByTurns ring batch streams feeds self
             → AreNumbers streams → result ≢ Outcome.Memory }
         ensures cause { result ≡ Outcome.WriteFault → Rose (K.write_faults sink.old) (K.write_faults sink.new) }
         ensures later { K.write_faults sink.old ≤ K.write_faults sink.new }
         ensures rest { K.rest sink.new ≡ K.rest sink.old }
     {
-        let Recorder {
-            inlets,
-            room,
-            reports,
-            sources,
-            batch,
-        } = self;
-        let mut inlets = inlets;
-        match record(&mut inlets, sink, room, reports, batch) {
-            Ok(recorded) => Outcome::Done {
-                reports: recorded.reports,
-                bytes: recorded.bytes,
-                chunks: recorded.chunks,
-                sources: SourceList::from_vec(sources_of(inlets, sources)),
-            },
-            Err(WriterFault::WriteFault) => Outcome::WriteFault,
-            Err(WriterFault::Memory) => Outcome::Memory,
+        match self.modes {
+            Modes::Turns(turns) => turns.run(sink),
+            Modes::Threads(_) => unreachable!(),
+        }
+    }
+
+    /// Records by threads. Each feed is read in a thread of its own, which puts its samples into the
+    /// feed's ring; the ring drops its oldest where it is full. This thread meanwhile goes round the
+    /// rings in order, and writes up to `batch` samples of each as one batch. Once every feed has ended,
+    /// the threads are joined, what is left in the rings is written, and the file is finished. Where a
+    /// thread can't be started, its feed is read by this thread. While little comes it sleeps between two
+    /// rounds, for 16 milliseconds at most. A feed that never ends is recorded for ever.
+    ///
+    /// `Done` says what became of the feeds, and that the file is whole. `WriteFault` comes only where a
+    /// write of the sink failed in this call, `Memory` for want of memory alone, and never where all feeds
+    /// are of numbers; a front of a recording's file went out then. The threads are joined before either
+    /// is answered.
+    pub fn run_threads<K: Sink, R: Threads + Wait + Clock + Sync>(
+        self,
+        rt: &R,
+        sink: &mut K,
+    ) -> Outcome<S>
+        requires mode { IsIn ByThreads self }
+        ensures done { (ring batch : ℕ) (streams : List StreamValue) (feeds : List (FeedValue S)) → IsOpenFor ByThreads ring batch streams feeds self
+            → IsDone S.left S.faults S.mark ByThreads ring batch streams feeds (K.held sink.old) (K.held sink.new) result }
+        ensures stopped { (ring batch : ℕ) (streams : List StreamValue) (feeds : List (FeedValue S)) → IsOpenFor ByThreads ring batch streams feeds self
+            → IsStopped streams (K.held sink.old) (K.held sink.new) result }
+        ensures memory { (ring batch : ℕ) (streams : List StreamValue) (feeds : List (FeedValue S)) → IsOpenFor ByThreads ring batch streams feeds self
+            → AreNumbers streams → result ≢ Outcome.Memory }
+        ensures cause { result ≡ Outcome.WriteFault → Rose (K.write_faults sink.old) (K.write_faults sink.new) }
+        ensures later { K.write_faults sink.old ≤ K.write_faults sink.new }
+        ensures rest { K.rest sink.new ≡ K.rest sink.old }
+    {
+        self.run_threads_home(rt, sink).0
+    }
+
+    /// As [`run_threads`](Recorder::run_threads), and says how many blocks of the feeds of numbers are
+    /// home at the end: all of them, `ring` and two for each feed; and 0 where the run isn't done.
+    pub fn run_threads_home<K: Sink, R: Threads + Wait + Clock + Sync>(
+        self,
+        rt: &R,
+        sink: &mut K,
+    ) -> (Outcome<S>, u64)
+        requires mode { IsIn ByThreads self }
+        ensures done { (ring batch : ℕ) (streams : List StreamValue) (feeds : List (FeedValue S)) → IsOpenFor ByThreads ring batch streams feeds self
+            → IsDone S.left S.faults S.mark ByThreads ring batch streams feeds (K.held sink.old) (K.held sink.new) result.0 }
+        ensures stopped { (ring batch : ℕ) (streams : List StreamValue) (feeds : List (FeedValue S)) → IsOpenFor ByThreads ring batch streams feeds self
+            → IsStopped streams (K.held sink.old) (K.held sink.new) result.0 }
+        ensures memory { (ring batch : ℕ) (streams : List StreamValue) (feeds : List (FeedValue S)) → IsOpenFor ByThreads ring batch streams feeds self
+            → AreNumbers streams → result.0 ≢ Outcome.Memory }
+        ensures cause { result.0 ≡ Outcome.WriteFault → Rose (K.write_faults sink.old) (K.write_faults sink.new) }
+        ensures later { K.write_faults sink.old ≤ K.write_faults sink.new }
+        ensures rest { K.rest sink.new ≡ K.rest sink.old }
+    {
+        match self.modes {
+            Modes::Threads(threads) => threads.run(rt, sink),
+            Modes::Turns(_) => unreachable!(),
         }
     }
 }

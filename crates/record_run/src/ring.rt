@@ -15,7 +15,8 @@ ghost use Rattle.inlet_ring.specs.Lone.{StandsFor as RingStandsFor};
 ghost use Rattle.inlet_model.specs.Inlet.{feed_kind};
 ghost use Rattle.feed_samples.specs.declared.step.FeedStep.{FeedStep as StepValue};
 ghost use Rattle.feed_samples.specs.Inlet.{FitsGiven, got, outlook, received_by};
-ghost use Rattle.record_run.specs.FeedRings.{IsNoFuller, IsOut, IsPut, IsTakenAt};
+ghost use Rattle.record_run.specs.FeedRings.{IsNoFuller, IsOut, IsPut};
+ghost use Rattle.run_model.specs.Putting.{IsTakenAt};
 
 use feed_samples::{BlockStep, FeedEnd, FeedReader, FillStep};
 use rec_base::{Memory, Sink, Source};

@@ -3,18 +3,20 @@
 ghost use Rattle.std.specs.Prelude.{◌≡◌, ◌≤◌, ◌<◌, ◌++◌, ◌∷◌, ℕ, List, [], false, length, map, slice_get, vec_capacity, Some, None, Option, IsTrue, IfOk, IfErr, OnOk, OnErr, IsErrOf};
 ghost use Rattle.rec_base.specs.Causes.{Rose};
 ghost use Rattle.xdf_model.specs.Sample.{Sample as SampleValue};
+ghost use Rattle.plan_model.specs.declared.plan.Mode.TheVariants.{Turns};
 ghost use Rattle.recording_model.specs.declared.stream.StreamDoc.{StreamDoc as StreamValue};
-ghost use Rattle.record_run.specs.declared.feed.FeedSource.{FeedSource as FeedValue};
+ghost use Rattle.run_model.specs.declared.feed.FeedSource.{FeedSource as FeedValue};
 ghost use Rattle.record_run.specs.Inlets.{InletView};
-ghost use Rattle.record_run.specs.Outcomes.{IsRecorded, IsCutOff};
-ghost use Rattle.record_run.specs.Recorders.{AreNumbers, IsOpenFor, RecorderView};
+ghost use Rattle.run_model.specs.Outcomes.{IsRecorded, IsCutOff};
+ghost use Rattle.run_model.specs.Fitting.{AreNumbers};
+ghost use Rattle.record_run.specs.Opening.{AreTurnsFor, TurnsView};
 ghost use Rattle.record_run.specs.Turning.{AreTurned, HaveEnded, report_in};
 
 use crate::inlet::Inlet;
 use crate::passes::{drain_all, fill_all};
-use crate::report::{FeedReport, ReportList};
 use rec_base::{Sink, Source};
 use record_writer::{Lent, Writer, WriterFault, WriterRoom};
+use run_model::{FeedReport, ReportList};
 
 // A turn that isn't the last takes at least one byte of a feed, of whose bytes 2^40 count.
 const MOST_TURNS: u64 = 1_099_511_627_777;
@@ -39,17 +41,17 @@ pub(crate) fn take_turns<S: Source, K: Sink>(
     batch: u64,
 ) -> Result<(), WriterFault>
     requires ready { (ring : ℕ) × (streams : List StreamValue) × (feeds : List (FeedValue S))
-        × IsOpenFor ring batch streams feeds (record { inlets = inlets.old; desk = writer.old.room.desk; batch = batch }) }
+        × AreTurnsFor ring batch streams feeds (record { inlets = inlets.old; desk = writer.old.room.desk; batch = batch }) }
     ensures same_reference { writer.new.sink.ghost_name ≡ writer.old.sink.ghost_name }
-    ensures turned { (ring : ℕ) (streams : List StreamValue) (feeds : List (FeedValue S)) → IsOpenFor ring batch streams feeds (record { inlets = inlets.old; desk = writer.old.room.desk; batch = batch })
+    ensures turned { (ring : ℕ) (streams : List StreamValue) (feeds : List (FeedValue S)) → AreTurnsFor ring batch streams feeds (record { inlets = inlets.old; desk = writer.old.room.desk; batch = batch })
         → OnOk result ((turns : ℕ) × (lists : List (List SampleValue))
         × AreTurned S.left S.faults S.mark ring batch turns streams feeds (K.held writer.old.sink.now) (K.held writer.new.sink.now) writer.new.room.desk lists inlets.new) }
     ensures ended { OnOk result (HaveEnded inlets.new) }
     ensures count { OnOk result (length inlets.new ≡ length inlets.old) }
-    ensures cut { (ring : ℕ) (streams : List StreamValue) (feeds : List (FeedValue S)) → IsOpenFor ring batch streams feeds (record { inlets = inlets.old; desk = writer.old.room.desk; batch = batch })
+    ensures cut { (ring : ℕ) (streams : List StreamValue) (feeds : List (FeedValue S)) → AreTurnsFor ring batch streams feeds (record { inlets = inlets.old; desk = writer.old.room.desk; batch = batch })
         → OnErr result (IsCutOff streams (K.held writer.old.sink.now) (K.held writer.new.sink.now)) }
     ensures closed { OnOk result ((writer.new.room.desk.count ≡ 0) × (writer.new.room.desk.broken ≡ false)) }
-    ensures memory { (ring : ℕ) (streams : List StreamValue) (feeds : List (FeedValue S)) → IsOpenFor ring batch streams feeds (record { inlets = inlets.old; desk = writer.old.room.desk; batch = batch })
+    ensures memory { (ring : ℕ) (streams : List StreamValue) (feeds : List (FeedValue S)) → AreTurnsFor ring batch streams feeds (record { inlets = inlets.old; desk = writer.old.room.desk; batch = batch })
         → AreNumbers streams → IsErrOf result WriterFault.Memory → ⊥ }
     ensures cause { IsErrOf result WriterFault.WriteFault → Rose (K.write_faults writer.old.sink.now) (K.write_faults writer.new.sink.now) }
     ensures later { K.write_faults writer.old.sink.now ≤ K.write_faults writer.new.sink.now }
@@ -114,7 +116,7 @@ pub(crate) fn finish<S: Source, K: Sink>(
     requires room { length inlets.now ≤ vec_capacity reports }
     ensures done { (ring batch turns : ℕ) (streams : List StreamValue) (feeds : List (FeedValue S)) (base : Option (List ℕ)) (lists : List (List SampleValue)) → 1 ≤ ring → 1 ≤ batch
         → AreTurned S.left S.faults S.mark ring batch turns streams feeds base (K.held writer.entry.sink.now) writer.entry.room.desk lists inlets.now
-        → IfOk result (λ r. IsRecorded S.left S.faults S.mark ring batch streams feeds base (K.held writer.exit.0.now) r.reports r.bytes r.chunks (map (λ x. x.source) inlets.now)) }
+        → IfOk result (λ r. IsRecorded S.left S.faults S.mark Turns ring batch streams feeds base (K.held writer.exit.0.now) r.reports r.bytes r.chunks (map (λ x. x.source) inlets.now)) }
     ensures stopped { (ring batch turns : ℕ) (streams : List StreamValue) (feeds : List (FeedValue S)) (base : Option (List ℕ)) (lists : List (List SampleValue)) → 1 ≤ ring → 1 ≤ batch
         → AreTurned S.left S.faults S.mark ring batch turns streams feeds base (K.held writer.entry.sink.now) writer.entry.room.desk lists inlets.now
         → OnErr result (IsCutOff streams base (K.held writer.exit.0.now)) }
@@ -149,14 +151,14 @@ pub(crate) fn record<S: Source, K: Sink>(
     batch: u64,
 ) -> Result<Recorded, WriterFault>
     requires ready { (ring : ℕ) × (streams : List StreamValue) × (feeds : List (FeedValue S))
-        × IsOpenFor ring batch streams feeds (record { inlets = inlets.old; desk = room.desk; batch = batch }) }
+        × AreTurnsFor ring batch streams feeds (record { inlets = inlets.old; desk = room.desk; batch = batch }) }
     requires empty { reports.items ≡ [] }
     requires space { length inlets.old ≤ vec_capacity reports }
-    ensures done { (ring : ℕ) (streams : List StreamValue) (feeds : List (FeedValue S)) → IsOpenFor ring batch streams feeds (record { inlets = inlets.old; desk = room.desk; batch = batch })
-        → IfOk result (λ r. IsRecorded S.left S.faults S.mark ring batch streams feeds (K.held sink.old) (K.held sink.new) r.reports r.bytes r.chunks (map (λ x. x.source) inlets.new)) }
-    ensures stopped { (ring : ℕ) (streams : List StreamValue) (feeds : List (FeedValue S)) → IsOpenFor ring batch streams feeds (record { inlets = inlets.old; desk = room.desk; batch = batch })
+    ensures done { (ring : ℕ) (streams : List StreamValue) (feeds : List (FeedValue S)) → AreTurnsFor ring batch streams feeds (record { inlets = inlets.old; desk = room.desk; batch = batch })
+        → IfOk result (λ r. IsRecorded S.left S.faults S.mark Turns ring batch streams feeds (K.held sink.old) (K.held sink.new) r.reports r.bytes r.chunks (map (λ x. x.source) inlets.new)) }
+    ensures stopped { (ring : ℕ) (streams : List StreamValue) (feeds : List (FeedValue S)) → AreTurnsFor ring batch streams feeds (record { inlets = inlets.old; desk = room.desk; batch = batch })
         → OnErr result (IsCutOff streams (K.held sink.old) (K.held sink.new)) }
-    ensures memory { (ring : ℕ) (streams : List StreamValue) (feeds : List (FeedValue S)) → IsOpenFor ring batch streams feeds (record { inlets = inlets.old; desk = room.desk; batch = batch })
+    ensures memory { (ring : ℕ) (streams : List StreamValue) (feeds : List (FeedValue S)) → AreTurnsFor ring batch streams feeds (record { inlets = inlets.old; desk = room.desk; batch = batch })
         → AreNumbers streams → IsErrOf result WriterFault.Memory → ⊥ }
     ensures cause { IsErrOf result WriterFault.WriteFault → Rose (K.write_faults sink.old) (K.write_faults sink.new) }
     ensures later { K.write_faults sink.old ≤ K.write_faults sink.new }

@@ -1,4 +1,4 @@
-use Rattle.std.proofs.Common.{◌≡◌, ℕ, ◌^◌, None, ◌∙◌}
+use Rattle.std.proofs.Common.{◌≡◌, ◌^◌, None, ◌∙◌}
 use Rattle.inlet_model.specs.Inlet.{feed_within}
 use Rattle.inlet_model.specs.declared.end.FeedEnd.TheVariants.{Whole}
 use Rattle.drill_feeds.specs.Drill.{drill_bytes, drill_samples, drill_shape}

@@ -5,13 +5,15 @@ use Rattle.recording_model.specs.Batch.{Batch}
 use Rattle.turns_model.specs.Turns.{batch_of}
 use Rattle.record_writer.specs.Desk.{next_at}
 use Rattle.record_writer.specs.Standing.{IsClosed}
-use Rattle.record_run.specs.Rings.{ring_entry}
+use Rattle.run_model.specs.Rings.{ring_entry}
 use Rattle.std.proofs.lemmas.List.{length-map}
 use Rattle.xdf_model.specs.declared.types.Shape.{Shape}
 use Rattle.record_writer.specs.declared.place.Place.{Place}
-use Rattle.record_run.proofs.Handing.{handed}
+use Rattle.run_model.proofs.Errors.{handed}
 use Rattle.record_run.specs.Inlets.{InletView, AreWaiting, IsDrained, waiting_batches}
-use Rattle.record_run.proofs.Rounds.{set_cases, set_else, same_or, on_err, waiting_more}
+use Rattle.run_model.proofs.Lists.{set_cases, set_else, same_or}
+use Rattle.run_model.proofs.Errors.{on_err}
+use Rattle.record_run.proofs.Rounds.{waiting_more}
 use Rattle.record_run.proofs.passes.drain_all.Goals as goal
 
 pub returns-in_err-drain-clause-cut : goal.returns-in_err-drain-clause-cut

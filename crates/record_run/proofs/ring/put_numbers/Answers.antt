@@ -5,7 +5,8 @@ use Rattle.ring_model.specs.declared.entry.Entry.{Entry}
 use Rattle.sample_ring.specs.Seen.{RingSeen, entry_in, sample_in}
 use Rattle.record_writer.specs.Standing.{closed, with_entry}
 use Rattle.record_run.specs.FeedRings.{IsTake}
-use Rattle.record_run.proofs.Blocks.{place_at, text_small}
+use Rattle.run_model.proofs.Batches.{place_at}
+use Rattle.run_model.proofs.Texts.{text_small}
 use Rattle.record_run.proofs.ring.put_numbers.Goals as goal
 
 pub put_block-put-requires-clause-position : goal.put_block-put-requires-clause-position

@@ -2,7 +2,7 @@ use Rattle.std.proofs.Common.{sym, ap, subst, Err}
 use Rattle.xdf_model.specs.Sample.{Sample}
 use Rattle.inlet_ring.specs.Lone.{Lone}
 use Rattle.record_run.specs.FeedRings.{IsTake}
-use Rattle.record_run.proofs.Blocks.{cut_text}
+use Rattle.run_model.proofs.Batches.{cut_text}
 use Rattle.record_run.proofs.ring.put_texts.Goals as goal
 
 pub returns-in-Ok-clause-out : goal.returns-in-Ok-clause-out

@@ -7,7 +7,8 @@ use Rattle.feed_samples.specs.Blocks.{Tells}
 use Rattle.feed_samples.specs.Inlet.{FitsGiven}
 use Rattle.sample_ring.specs.Seen.{RingSeen, IsFull, sample_in}
 use Rattle.record_run.specs.FeedRings.{IsPush, dropped_by}
-use Rattle.record_run.proofs.Blocks.{filled_by, put_of}
+use Rattle.feed_lane.proofs.Filled.{filled_by}
+use Rattle.record_run.proofs.Blocks.{put_of}
 use Rattle.record_run.proofs.ring.take_numbers.Goals as goal
 
 pub push-requires-clause-full : goal.push-requires-clause-full

@@ -2,7 +2,8 @@ use Rattle.std.proofs.Common.{◌≡◌, inl, inr, Some, slice_get, length, refl
 use Rattle.std.specs.Option.{is_some}
 use Rattle.std.proofs.lemmas.Option.{slice_get_within, slice_get_read}
 use Rattle.record_run.specs.Inlets.{InletView}
-use Rattle.record_run.proofs.Rounds.{same_or, none_is, some_is}
+use Rattle.run_model.proofs.Lists.{same_or}
+use Rattle.run_model.proofs.Ends.{none_is, some_is}
 use Rattle.record_run.proofs.turns.have_ended.Goals as goal
 
 pub returns-then-is_none-clause-some : goal.returns-then-is_none-clause-some

@@ -4,10 +4,11 @@ use Rattle.turns_model.specs.Turns.{first_turns}
 use Rattle.record_writer.specs.Desk.{DeskState}
 use Rattle.record_writer.specs.Standing.{IsClosed}
 use Rattle.record_run.specs.Turning.{AreTurned}
-use Rattle.record_run.proofs.Handing.{handed}
-use Rattle.record_run.proofs.Rounds.{on_err}
+use Rattle.run_model.proofs.Errors.{handed}
+use Rattle.run_model.proofs.Errors.{on_err}
 use Rattle.record_run.proofs.Stepping.{new_lists, numeric_filled, all_waiting, all_turned}
-use Rattle.record_run.proofs.Starting.{opened_turned, queues_empty, numeric_turned, not_endless, turned_cut, cut_off}
+use Rattle.record_run.proofs.Starting.{opened_turned, queues_empty, numeric_turned, not_endless, turned_cut}
+use Rattle.run_model.proofs.Batches.{cut_off}
 use Rattle.record_run.proofs.turns.take_turns.Goals as goal
 
 pub loop-init : goal.loop-init

@@ -4,9 +4,10 @@ use Rattle.xdf_model.specs.declared.types.Shape.{Shape}
 use Rattle.record_writer.specs.Desk.{DeskState}
 use Rattle.inlet_ring.specs.Lone.{Lone}
 use Rattle.xdf_model.specs.Sample.{Sample}
-use Rattle.record_run.specs.FeedRings.{IsOut, IsTakenAt}
+use Rattle.record_run.specs.FeedRings.{IsOut}
+use Rattle.run_model.specs.Putting.{IsTakenAt}
 use Rattle.record_run.specs.Inlets.{InletView}
-use Rattle.record_run.proofs.Rounds.{on_err}
+use Rattle.run_model.proofs.Errors.{on_err}
 use Rattle.record_run.proofs.Draining.{Draining, draining_none, draining_more, taken_at, cut_one, cut_so, closed_so, drained_all}
 use Rattle.record_run.proofs.inlet.Inlet.drain.Goals as goal
 

@@ -2,7 +2,8 @@ use Rattle.std.proofs.Common.{◌≡◌, sym, ap, ◌∙◌, subst, Some}
 use Rattle.std.specs.Prelude.{slice_get}
 use Rattle.xdf_model.specs.declared.types.Shape.{Shape}
 use Rattle.record_run.specs.declared.ring.Rooms.{Rooms}
-use Rattle.record_run.specs.FeedRings.{FeedRingView, lone_in, AreRoomsFor, IsTakenAt}
+use Rattle.record_run.specs.FeedRings.{FeedRingView, lone_in, AreRoomsFor}
+use Rattle.run_model.specs.Putting.{IsTakenAt}
 use Rattle.record_run.proofs.ring.FeedRing.put_oldest.Goals as goal
 
 pub put_numbers-requires-clause-taken : goal.put_numbers-requires-clause-taken

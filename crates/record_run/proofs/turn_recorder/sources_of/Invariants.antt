@@ -1,7 +1,7 @@
 use Rattle.std.proofs.Common.{◌≡◌, ◌≤◌, ◌+◌, ◌++◌, length, map}
 use Rattle.std.specs.Prelude.{vec_capacity}
 use Rattle.record_run.specs.Inlets.{InletView}
-use Rattle.record_run.proofs.recorder.sources_of.Given as goal
+use Rattle.record_run.proofs.turn_recorder.sources_of.Given as goal
 
 abbrev pub invariant-loop : goal.invariant-loop
 invariant-loop g l = record {

@@ -1,9 +1,9 @@
 use Rattle.std.proofs.Common.{◌≡◌, ℕ, length, drop, slice_get, Some}
 use Rattle.recording_model.specs.declared.stream.StreamDoc.{StreamDoc}
-use Rattle.record_run.specs.declared.feed.FeedSource.{FeedSource}
+use Rattle.run_model.specs.declared.feed.FeedSource.{FeedSource}
 use Rattle.record_run.specs.Inlets.{InletView}
-use Rattle.record_run.specs.Recorders.{IsNewInlet}
-use Rattle.record_run.proofs.recorder.new_inlets.Given as goal
+use Rattle.record_run.specs.Opening.{IsNewInlet}
+use Rattle.record_run.proofs.turn_recorder.new_inlets.Given as goal
 
 abbrev pub invariant-loop-place : goal.invariant-loop-place
 invariant-loop-place g l = record {

@@ -1,12 +1,13 @@
 use Rattle.std.proofs.Common.{◌≡◌, ◌<◌, List, [], ◌∷◌, ◌++◌, length, drop, slice_get, Some, refl, sym, ap, ◌∙◌, arith, length-append, length-drop}
 use Rattle.std.proofs.lemmas.Option.{slice_get_read}
 use Rattle.recording_model.specs.declared.stream.StreamDoc.{StreamDoc}
-use Rattle.record_run.specs.declared.feed.FeedSource.{FeedSource}
+use Rattle.run_model.specs.declared.feed.FeedSource.{FeedSource}
 use Rattle.record_run.specs.Inlets.{InletView}
-use Rattle.record_run.specs.Recorders.{IsNewInlet}
-use Rattle.record_run.proofs.Shapes.{stream_small}
-use Rattle.record_run.proofs.Starting.{opened_next, front_at, drop_next}
-use Rattle.record_run.proofs.recorder.new_inlets.Goals as goal
+use Rattle.record_run.specs.Opening.{IsNewInlet}
+use Rattle.run_model.proofs.Shapes.{stream_small}
+use Rattle.record_run.proofs.Starting.{opened_next}
+use Rattle.run_model.proofs.Lists.{front_at, drop_next}
+use Rattle.record_run.proofs.turn_recorder.new_inlets.Goals as goal
 
 pub new-requires-clause-count : goal.new-requires-clause-count
 new-requires-clause-count g c =

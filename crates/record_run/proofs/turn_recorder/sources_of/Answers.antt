@@ -2,8 +2,8 @@ use Rattle.std.proofs.Common.{◌≡◌, ◌<◌, [], ◌∷◌, ◌++◌, lengt
 use Rattle.std.proofs.lemmas.List.{append-nil}
 use Rattle.std.proofs.lemmas.Option.{slice_get_read}
 use Rattle.record_run.specs.Inlets.{InletView}
-use Rattle.record_run.proofs.Draining.{cons_of}
-use Rattle.record_run.proofs.recorder.sources_of.Goals as goal
+use Rattle.run_model.proofs.Lists.{cons_of}
+use Rattle.record_run.proofs.turn_recorder.sources_of.Goals as goal
 
 empty_of : {A : Type 0} (xs : List A) → length xs ≡ 0 → xs ≡ []
 empty_of [] e = refl

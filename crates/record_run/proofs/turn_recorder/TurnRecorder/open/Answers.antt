@@ -1,7 +1,7 @@
 use Rattle.std.proofs.Common.{rules, ◌≡◌, ◌≤◌, length, ap, arith}
 use Rattle.std.specs.Prelude.{vec_capacity}
 use Rattle.record_run.proofs.Starting.{open_for}
-use Rattle.record_run.proofs.recorder.Recorder.open.Goals as goal
+use Rattle.record_run.proofs.turn_recorder.TurnRecorder.open.Goals as goal
 
 pub invariant_of-result : goal.invariant_of-result
 invariant_of-result g c =
