@@ -1,6 +1,8 @@
 -- The inputs of feeds, one after the other.
-use Rattle.std.proofs.Common.{◌≡◌, ℕ, suc, ◌+◌, List, [], ◌∷◌, ◌++◌, length, take, drop, Option, Some, None, refl, sym, ap, ◌∙◌, subst, append-nil, append_assoc}
+use Rattle.std.proofs.Common.{◌≡◌, ℕ, zero, suc, ◌+◌, ◌≤◌, List, [], ◌∷◌, ◌++◌, length, take, drop, Option, Some, None, refl, sym, ap, ◌∙◌, subst, append-nil, append_assoc, arith}
 use Rattle.std.specs.Prelude.{slice_get}
+use Rattle.std.specs.List.{zip}
+use Rattle.std.proofs.lemmas.List.{take_all}
 use Rattle.rec_base.specs.declared.name.Name.{Name}
 use Rattle.rec_base.specs.declared.name.Name.TheVariants as name
 use Rattle.rec_base.specs.Contents.{Contents, Opens, IsInput, IsOpened}
@@ -9,22 +11,22 @@ use Rattle.dock_calls.specs.Places.{IsAfter}
 use Rattle.dock_calls.proofs.Places.{IsInput-at, IsOpened-at, IsOpened-first, IsAfter-opened}
 use Rattle.plan_model.specs.declared.plan.FeedLine.{FeedLine}
 use Rattle.recording_model.specs.declared.stream.StreamDoc.{StreamDoc}
-use Rattle.record_run.specs.declared.feed.FeedSource.{FeedSource}
-use Rattle.record_call.specs.Feeds.{document_name, file_name, feed_name, names_of, AreEach, IsStreamOf, IsNoDocument, IsNext, IsSourceOf, IsStreamRead, AreStreamsRead, HasNoStreamHere, HasFailedHere, IsSourceOpened, AreSourcesOpened}
+use Rattle.run_model.specs.declared.feed.FeedSource.{FeedSource}
+use Rattle.record_call.specs.Feeds.{document_name, feed_input, feed_name, names_of, AreEach, IsStreamOf, IsNoDocument, IsNext, IsSourceOf, IsStreamRead, AreStreamsRead, HasNoStreamHere, HasFailedHere, IsSourceOpened, AreSourcesOpened}
 use Rattle.record_call.proofs.Lists.{take_next, parts_at}
 
-names_more : (opens : FeedLine → List Name) (feeds : List FeedLine) (feed : FeedLine) → names_of opens (feeds ++ feed ∷ []) ≡ names_of opens feeds ++ opens feed
+names_more : {F : Type 0} (opens : F → List Name) (feeds : List F) (feed : F) → names_of opens (feeds ++ feed ∷ []) ≡ names_of opens feeds ++ opens feed
 names_more opens [] feed = append-nil (opens feed)
 names_more opens (x ∷ feeds) feed =
     ap (λ (t : List Name). opens x ++ t) (names_more opens feeds feed) ∙ sym (append_assoc (opens x) (names_of opens feeds) (opens feed))
 
 -- the names behind those that were opened before
-names_behind : (opens : FeedLine → List Name) (names : List Name) (feeds : List FeedLine) (feed : FeedLine) → (names ++ names_of opens feeds) ++ opens feed ≡ names ++ names_of opens (feeds ++ feed ∷ [])
+names_behind : {F : Type 0} (opens : F → List Name) (names : List Name) (feeds : List F) (feed : F) → (names ++ names_of opens feeds) ++ opens feed ≡ names ++ names_of opens (feeds ++ feed ∷ [])
 names_behind opens names feeds feed =
     append_assoc names (names_of opens feeds) (opens feed) ∙ ap (λ (t : List Name). names ++ t) (sym (names_more opens feeds feed))
 
 -- one feed more has its item
-pub each_more : {T : Type 0} (opens : FeedLine → List Name) (each : List Name → FeedLine → T → Type 0) (names : List Name) (feeds : List FeedLine) (xs : List T) (feed : FeedLine) (x : T)
+pub each_more : {F T : Type 0} (opens : F → List Name) (each : List Name → F → T → Type 0) (names : List Name) (feeds : List F) (xs : List T) (feed : F) (x : T)
     → AreEach opens each names feeds xs → each (names ++ names_of opens feeds) feed x → AreEach opens each names (feeds ++ feed ∷ []) (xs ++ x ∷ [])
 each_more opens each names [] [] feed x all last =
     let P : List Name → Type 0 = λ ns. each ns feed x in (subst P (append-nil names) last, tt)
@@ -34,7 +36,7 @@ each_more opens each names (f ∷ feeds) (y ∷ xs) feed x all last =
     let P : List Name → Type 0 = λ ns. each ns feed x in
     (all.0, each_more opens each (names ++ opens f) feeds xs feed x all.1 (subst P (sym (append_assoc names (opens f) (names_of opens feeds))) last))
 
-pub each_length : {T : Type 0} (opens : FeedLine → List Name) (each : List Name → FeedLine → T → Type 0) (names : List Name) (feeds : List FeedLine) (xs : List T) → AreEach opens each names feeds xs → length xs ≡ length feeds
+pub each_length : {F T : Type 0} (opens : F → List Name) (each : List Name → F → T → Type 0) (names : List Name) (feeds : List F) (xs : List T) → AreEach opens each names feeds xs → length xs ≡ length feeds
 each_length opens each names [] [] all = refl
 each_length opens each names [] (y ∷ xs) all = absurd all
 each_length opens each names (f ∷ feeds) [] all = absurd all
@@ -122,30 +124,53 @@ failed_here left_of faults_of mark_of a b feeds i streams feed e so_far first la
 
 -- ---- feeds
 
+zip_short : {A B : Type 0} (xs : List A) (ys : List B) → length (zip xs ys) ≤ length xs
+zip_short [] ys = omega arith
+zip_short (x ∷ xs) [] = omega arith
+zip_short (x ∷ xs) (y ∷ ys) = let more = zip_short xs ys in omega (arith, more)
+
+pub zip_long : {A B : Type 0} (xs : List A) (ys : List B) → length ys ≡ length xs → length (zip xs ys) ≡ length xs
+zip_long [] ys e = refl
+zip_long (x ∷ xs) [] e = absurd (omega (arith, e))
+zip_long (x ∷ xs) (y ∷ ys) e = ap suc (zip_long xs ys (omega (arith, e)))
+
 pub sources_none : {S : Type 0} (left_of : S → Option (List ℕ)) (c : Option Contents) → AreSourcesOpened left_of c c [] []
 sources_none left_of c = record { are = λ contents names after. record { each = tt }; left = λ contents names after. after_nil contents c names after }
 
-pub sources_more : {S : Type 0} (left_of : S → Option (List ℕ)) (a b d : Option Contents) (feeds : List FeedLine) (sources : List (FeedSource S)) (feed : FeedLine) (source : FeedSource S)
+pub sources_more : {S : Type 0} (left_of : S → Option (List ℕ)) (a b d : Option Contents) (feeds : List (FeedLine × StreamDoc)) (sources : List (FeedSource S)) (feed : FeedLine × StreamDoc) (source : FeedSource S)
     → AreSourcesOpened left_of a b feeds sources → IsSourceOpened left_of b d feed source → AreSourcesOpened left_of a d (feeds ++ feed ∷ []) (sources ++ source ∷ [])
 sources_more left_of a b d feeds sources feed source so_far last = record {
   are = λ contents names after. record {
     each = each_more feed_name (IsSourceOf left_of contents) names feeds sources feed source (so_far.are contents names after).each (record {
-      path = last.path;
-      from = last.from;
-      opened = IsOpened-at contents b _ (name.File last.path) (left_of source.source) (so_far.left contents names after) (IsOpened-first b d (name.File last.path) (left_of source.source) last.opened);
+      opened = IsOpened-at contents b _ (feed_input feed) (left_of source.source) (so_far.left contents names after) (IsOpened-first b d (feed_input feed) (left_of source.source) last.opened);
       uid = last.uid;
       limit = last.limit;
     });
   };
   left = λ contents names after.
       let P : List Name → Type 0 = λ ns. IsAfter contents d ns in
-      let Q : List Name → Type 0 = λ ns. IsAfter contents d ((names ++ names_of feed_name feeds) ++ ns) in
-      let one : name.File last.path ∷ [] ≡ feed_name feed = sym (ap file_name last.from) in
-      subst P (names_behind feed_name names feeds feed) (subst Q one (IsAfter-opened contents b d (names ++ names_of feed_name feeds) (name.File last.path) _ (so_far.left contents names after) last.opened));
+      subst P (names_behind feed_name names feeds feed) (IsAfter-opened contents b d (names ++ names_of feed_name feeds) (feed_input feed) _ (so_far.left contents names after) last.opened);
 }
 
-pub sources_next : {S : Type 0} (left_of : S → Option (List ℕ)) (a b d : Option Contents) (feeds : List FeedLine) (i : ℕ) (sources : List (FeedSource S)) (feed : FeedLine) (source : FeedSource S) → Some feed ≡ slice_get feeds i
-    → AreSourcesOpened left_of a b (take i feeds) sources → IsSourceOpened left_of b d feed source → AreSourcesOpened left_of a d (take (i + 1) feeds) (sources ++ source ∷ [])
-sources_next {S} left_of a b d feeds i sources feed source e so_far last =
-    let P : List FeedLine → Type 0 = λ fs. AreSourcesOpened left_of a d fs (sources ++ source ∷ []) in
-    subst P (sym (take_next feeds i feed (sym e))) (sources_more left_of a b d (take i feeds) sources feed source so_far last)
+-- a feed beside its stream
+beside : (feeds : List FeedLine) (streams : List StreamDoc) (i : ℕ) (feed : FeedLine) (stream : StreamDoc) → slice_get feeds i ≡ Some feed → slice_get streams i ≡ Some stream → slice_get (zip feeds streams) i ≡ Some (feed, stream)
+beside [] streams i feed stream e h = absurd cc
+beside (f ∷ feeds) [] i feed stream e h = absurd cc
+beside (f ∷ feeds) (s ∷ streams) zero feed stream e h = let same : f ≡ feed = cc e in let also : s ≡ stream = cc h in cc (same, also)
+beside (f ∷ feeds) (s ∷ streams) (suc i) feed stream e h = beside feeds streams i feed stream e h
+
+pub sources_next : {S : Type 0} (left_of : S → Option (List ℕ)) (a b d : Option Contents) (feeds : List FeedLine) (streams : List StreamDoc) (i : ℕ) (sources : List (FeedSource S)) (feed : FeedLine) (stream : StreamDoc) (source : FeedSource S)
+    → Some feed ≡ slice_get feeds i → slice_get streams i ≡ Some stream → AreSourcesOpened left_of a b (take i (zip feeds streams)) sources → IsSourceOpened left_of b d (feed, stream) source
+    → AreSourcesOpened left_of a d (take (i + 1) (zip feeds streams)) (sources ++ source ∷ [])
+sources_next {S} left_of a b d feeds streams i sources feed stream source e h so_far last =
+    let P : List (FeedLine × StreamDoc) → Type 0 = λ fs. AreSourcesOpened left_of a d fs (sources ++ source ∷ []) in
+    let there = beside feeds streams i feed stream (sym e) h in
+    subst P (sym (take_next (zip feeds streams) i (feed, stream) there)) (sources_more left_of a b d (take i (zip feeds streams)) sources (feed, stream) source so_far last)
+
+-- the sources so far are all
+pub sources_all : {S : Type 0} (left_of : S → Option (List ℕ)) (a d : Option Contents) (feeds : List FeedLine) (streams : List StreamDoc) (i : ℕ) (sources : List (FeedSource S)) → length streams ≡ length feeds → length feeds ≤ i
+    → AreSourcesOpened left_of a d (take i (zip feeds streams)) sources → AreSourcesOpened left_of a d (zip feeds streams) sources
+sources_all left_of a d feeds streams i sources count le so_far =
+    let P : List (FeedLine × StreamDoc) → Type 0 = λ fs. AreSourcesOpened left_of a d fs sources in
+    let long : length (zip feeds streams) ≤ length feeds = zip_short feeds streams in
+    subst P (take_all i (zip feeds streams) (omega (arith, long, le))) so_far

@@ -1,7 +1,7 @@
 -- A recording by its parts.
 use Rattle.std.proofs.Common.{◌≡◌, ◌≢◌, ℕ, suc, ◌≤◌, List, [], ◌∷◌, ◌++◌, length, take, map, Option, Some, None, refl, sym, ap, ◌∙◌, subst, arith}
 use Rattle.std.specs.Prelude.{slice_get}
-use Rattle.std.specs.List.{AllByRecursion, list_all}
+use Rattle.std.specs.List.{AllByRecursion, list_all, zip}
 use Rattle.std.proofs.lemmas.List.{take_all}
 use Rattle.std.proofs.lemmas.List.Folds.{list_all-map}
 use Rattle.std.specs.Io.KnownBytes.{Consumes}
@@ -19,19 +19,22 @@ use Rattle.chunk_grammar.specs.Chunk.{least_file_text}
 use Rattle.inlet_model.specs.declared.end.FeedEnd.{FeedEnd}
 use Rattle.inlet_model.specs.Inlet.{feed_kind}
 use Rattle.plan_model.specs.declared.plan.FeedLine.{FeedLine}
+use Rattle.plan_model.specs.declared.plan.Mode.{Mode}
+use Rattle.plan_model.specs.declared.plan.Mode.TheVariants.{Threads, Turns}
 use Rattle.plan_model.specs.Sound.{AreFeeds}
 use Rattle.recording_model.specs.declared.stream.StreamDoc.{StreamDoc}
 use Rattle.recording_model.specs.Recording.{AreStreams}
 use Rattle.record_writer.specs.Desk.{capped}
-use Rattle.record_run.specs.declared.feed.FeedSource.{FeedSource}
-use Rattle.record_run.specs.declared.report.FeedReport.{FeedReport}
-use Rattle.record_run.specs.Run.{Fed, IsRun, feed_of, report_of}
-use Rattle.record_run.specs.Outcomes.{IsCutOff}
+use Rattle.run_model.specs.declared.feed.FeedSource.{FeedSource}
+use Rattle.run_model.specs.declared.report.FeedReport.{FeedReport}
+use Rattle.run_model.specs.Run.{Fed, IsRun, feed_of, report_of}
+use Rattle.run_model.specs.Outcomes.{IsCutOff}
+use Rattle.record_run.specs.Recorders.{RecorderView, by_turns, by_threads, IsIn, IsOpenFor}
 use Rattle.record_call.specs.Ends.{is_complete}
 use Rattle.record_call.specs.Lines.{record_lines}
-use Rattle.record_call.specs.Feeds.{document_name, feed_name, names_of, AreEach, IsStreamOf, IsSourceOf, IsToldOf}
+use Rattle.record_call.specs.Feeds.{document_name, feed_input, feed_name, names_of, AreEach, IsStreamOf, IsSourceOf, IsToldOf}
 use Rattle.record_call.specs.Recorded.{IsReady, IsFileOf, IsWritten, IsFileWritten, IsCut, IsCutFile, lines_of}
-use Rattle.record_call.proofs.Feeds.{each_length}
+use Rattle.record_call.proofs.Feeds.{each_length, zip_long}
 
 -- ---- the streams of a plan
 
@@ -63,8 +66,8 @@ streams_short contents names [] (s ∷ streams) each = absurd each
 streams_short contents names (f ∷ feeds) [] each = absurd each
 streams_short contents names (f ∷ feeds) (s ∷ streams) each = (each.0.short, streams_short contents (names ++ document_name f) feeds streams each.1)
 
-module _ {S : Type 0} (left_of : S → Option (List ℕ)) (contents : Option Contents) (words : List (List ℕ)) (out : List ℕ) (ring batch : ℕ) (streams : List StreamDoc) (sources : List (FeedSource S))
-    (r : IsReady left_of contents words out ring batch streams sources) where
+module _ {S : Type 0} (left_of : S → Option (List ℕ)) (contents : Option Contents) (words : List (List ℕ)) (out : List ℕ) (mode : Mode) (ring batch : ℕ) (streams : List StreamDoc) (sources : List (FeedSource S))
+    (r : IsReady left_of contents words out mode ring batch streams sources) where
   pub ready_are : AreStreams streams
   ready_are = streams_are contents _ out r.plan.feeds streams r.asked.has.streams_of.each r.sound.feeds
 
@@ -81,7 +84,14 @@ module _ {S : Type 0} (left_of : S → Option (List ℕ)) (contents : Option Con
   ready_few = omega (arith, ready_count, r.sound.few)
 
   pub ready_feeds : length sources ≡ length streams
-  ready_feeds = each_length feed_name (IsSourceOf left_of contents) _ r.plan.feeds sources r.opened.each ∙ sym ready_count
+  ready_feeds = each_length feed_name (IsSourceOf left_of contents) _ (zip r.plan.feeds streams) sources r.opened.each ∙ zip_long r.plan.feeds streams ready_count ∙ sym ready_count
+
+-- a recorder that is open in a mode is of this mode
+pub opened_in : {S : Type 0} (mode : Mode) (ring batch : ℕ) (streams : List StreamDoc) (feeds : List (FeedSource S)) (r : RecorderView S) → IsOpenFor mode ring batch streams feeds r → IsIn mode r
+opened_in Turns ring batch streams feeds (by_turns r) o = tt
+opened_in Turns ring batch streams feeds (by_threads r) o = o
+opened_in Threads ring batch streams feeds (by_turns r) o = o
+opened_in Threads ring batch streams feeds (by_threads r) o = tt
 
 -- ---- what is told of the feeds
 
@@ -98,16 +108,14 @@ module _ {S M : Type 0} (left_of : S → Option (List ℕ)) (faults_of : S → �
   abbrev pub WasRead : Fed S → Type 0
   WasRead x = IsRead left_of faults_of mark_of feed_kind (feed_of x.stream x.feed) x.feed.source x.last x.samples x.end
 
-  told_one : (names : List Name) (feed : FeedLine) (x : Fed S) → IsSourceOf left_of contents names feed x.feed → WasRead x → IsToldOf contents names feed x
+  told_one : (names : List Name) (feed : FeedLine × StreamDoc) (x : Fed S) → IsSourceOf left_of contents names feed x.feed → WasRead x → IsToldOf contents names feed x
   told_one names feed x source read = record {
-    path = source.path;
-    from = source.from;
     told = λ texts is.
-        let P : Option Contents → Type 0 = λ c. IsOpenedAt c names (name.File source.path) (left_of x.feed.source) in
-        told_left texts (name.File source.path) (place_of names (name.File source.path)) (feed_of x.stream x.feed) (left_of x.feed.source) (left_of x.last) read.taken x.samples x.end (subst P is source.opened) read.lost read.ends;
+        let P : Option Contents → Type 0 = λ c. IsOpenedAt c names (feed_input feed) (left_of x.feed.source) in
+        told_left texts (feed_input feed) (place_of names (feed_input feed)) (feed_of x.stream x.feed) (left_of x.feed.source) (left_of x.last) read.taken x.samples x.end (subst P is source.opened) read.lost read.ends;
   }
 
-  told_each : (names : List Name) (feeds : List FeedLine) (fed : List (Fed S)) → AreEach feed_name (IsSourceOf left_of contents) names feeds (map (λ x. x.feed) fed)
+  told_each : (names : List Name) (feeds : List (FeedLine × StreamDoc)) (fed : List (Fed S)) → AreEach feed_name (IsSourceOf left_of contents) names feeds (map (λ x. x.feed) fed)
       → ((place : ℕ) (x : Fed S) → slice_get fed place ≡ Some x → WasRead x) → AreEach feed_name (IsToldOf contents) names feeds fed
   told_each names [] [] each reads = tt
   told_each names [] (x ∷ fed) each reads = absurd each
@@ -135,15 +143,15 @@ cut_from streams out t target target' h held held' target_is held_is cut =
 
 module _ {S M : Type 0} (left_of : S → Option (List ℕ)) (faults_of : S → ℕ) (mark_of : S → M) (contents : Option Contents) (words : List (List ℕ)) (target target' held held' : Option (List ℕ)) where
   -- a recording that was ready and is written is the one that the words ask for
-  pub file_written : (t h : Option (List ℕ)) (out : List ℕ) (ring batch : ℕ) (streams : List StreamDoc) (sources : List (FeedSource S)) (reports : List FeedReport) (bytes count : ℕ) → t ≡ target → h ≡ held
-      → IsReady left_of contents words out ring batch streams sources → IsWritten left_of faults_of mark_of ring batch streams sources out t target' h held' reports bytes count
+  pub file_written : (t h : Option (List ℕ)) (out : List ℕ) (mode : Mode) (ring batch : ℕ) (streams : List StreamDoc) (sources : List (FeedSource S)) (reports : List FeedReport) (bytes count : ℕ) → t ≡ target → h ≡ held
+      → IsReady left_of contents words out mode ring batch streams sources → IsWritten left_of faults_of mark_of mode ring batch streams sources out t target' h held' reports bytes count
       → IsFileWritten left_of faults_of mark_of contents words target target' held held' reports bytes count
-  file_written t h out ring batch streams sources reports bytes count target_is held_is r w =
-      let R : ℕ → ℕ → Type 0 = λ a b. IsRun left_of faults_of mark_of a b streams sources w.fed w.chunks in
-      let run = subst (λ (b : ℕ). R r.plan.ring b) r.batch_is (subst (λ (a : ℕ). R a batch) r.ring_is w.run) in
+  file_written t h out mode ring batch streams sources reports bytes count target_is held_is r w =
+      let R : Mode → ℕ → ℕ → Type 0 = λ m a b. IsRun left_of faults_of mark_of m a b streams sources w.fed w.chunks in
+      let run = subst (λ (m : Mode). R m r.plan.ring r.plan.batch) r.mode_is (subst (λ (b : ℕ). R mode r.plan.ring b) r.batch_is (subst (λ (a : ℕ). R mode a batch) r.ring_is w.run)) in
       let T : Option (List ℕ) → Type 0 = λ o. Becomes o target' out in
       let H : Option (List ℕ) → Type 0 = λ o. Becomes o held' (least_file_text w.chunks) in
-      let F : List (FeedSource S) → Type 0 = λ ss. AreEach feed_name (IsSourceOf left_of contents) (name.File r.asked.has.path ∷ names_of document_name r.plan.feeds) r.plan.feeds ss in
+      let F : List (FeedSource S) → Type 0 = λ ss. AreEach feed_name (IsSourceOf left_of contents) (name.File r.asked.has.path ∷ names_of document_name r.plan.feeds) (zip r.plan.feeds streams) ss in
       record {
         fed = w.fed;
         chunks = w.chunks;
@@ -156,7 +164,7 @@ module _ {S M : Type 0} (left_of : S → Option (List ℕ)) (faults_of : S → �
             sources = sources;
             opened = r.opened;
             run = run;
-            told = record { each = told_each left_of faults_of mark_of contents _ r.plan.feeds w.fed (subst F (sym w.run.each_feed) r.opened.each) (λ place x at. (w.run.each place x at).read) };
+            told = record { each = told_each left_of faults_of mark_of contents _ (zip r.plan.feeds streams) w.fed (subst F (sym w.run.each_feed) r.opened.each) (λ place x at. (w.run.each place x at).read) };
           };
           created = subst T target_is w.created;
           text = subst H held_is w.text;
@@ -178,7 +186,7 @@ module _ {S M : Type 0} (left_of : S → Option (List ℕ)) (faults_of : S → �
         asked = file.recording.asked;
         cut = record {
           created = file.created;
-          batches = _;
+          batches = file.recording.run.batches;
           chunks = chunks;
           recording = file.recording.run.recording;
           front = (length text, subst P (sym (take_all (length text) text (omega arith))) file.text);

@@ -8,13 +8,15 @@ use Rattle.rec_base.specs.Moved.{HasFailed}
 use Rattle.dock_calls.specs.Places.{place_of, IsInputAt, IsOpenedAt, IsAfter}
 use Rattle.reading_model.specs.Read.{IsReadingOf}
 use Rattle.xdf_model.specs.Shape.{shape_in}
+use Rattle.xdf_model.specs.declared.types.Shape.{Shape}
+use Rattle.reply_model.specs.Request.{request_bytes}
 use Rattle.inlet_model.specs.Inlet.{feed_kind}
 use Rattle.plan_model.specs.declared.plan.FeedFrom.{FeedFrom}
 use Rattle.plan_model.specs.declared.plan.FeedFrom.TheVariants as from
 use Rattle.plan_model.specs.declared.plan.FeedLine.{FeedLine}
 use Rattle.recording_model.specs.declared.stream.StreamDoc.{StreamDoc}
-use Rattle.record_run.specs.declared.feed.FeedSource.{FeedSource}
-use Rattle.record_run.specs.Run.{Fed, feed_of}
+use Rattle.run_model.specs.declared.feed.FeedSource.{FeedSource}
+use Rattle.run_model.specs.Run.{Fed, feed_of}
 
 -- the most bytes of a header document
 abbrev pub document_limit : ℕ
@@ -24,20 +26,30 @@ document_limit = 1_048_576
 abbrev pub document_name : FeedLine → List Name
 document_name feed = name.File feed.doc ∷ []
 
--- the name under which a feed from a file is opened; no other feed is opened yet
-abbrev pub file_name : FeedFrom → List Name
-file_name (from.File path) = name.File path ∷ []
-file_name (from.Tcp host port uid) = []
+-- where samples of this shape come from: the file at a path, or the outlet at a host and a port, which is sent the request for the stream with
+-- this uid
+abbrev pub input_from : FeedFrom → Shape → Name
+input_from (from.File path) shape = name.File path
+input_from (from.Tcp host port uid) shape = name.Peer host port (request_bytes uid shape)
 
-abbrev pub feed_name : FeedLine → List Name
-feed_name feed = file_name feed.from
+-- the uid that the reply must have: that of the stream which an outlet was asked for, and any in a file
+abbrev pub uid_from : FeedFrom → Option (List ℕ)
+uid_from (from.File path) = None
+uid_from (from.Tcp host port uid) = Some uid
 
-abbrev pub names_of : (FeedLine → List Name) → List FeedLine → List Name
+-- the name under which a feed that becomes this stream is opened
+abbrev pub feed_input : FeedLine × StreamDoc → Name
+feed_input feed = input_from feed.0.from feed.1.shape
+
+abbrev pub feed_name : FeedLine × StreamDoc → List Name
+feed_name feed = feed_input feed ∷ []
+
+abbrev pub names_of : {F : Type 0} → (F → List Name) → List F → List Name
 names_of opens [] = []
 names_of opens (feed ∷ feeds) = opens feed ++ names_of opens feeds
 
 -- each feed has its item, which is opened once these names and those of the feeds before it were
-abbrev pub AreEach : {T : Type 0} → (FeedLine → List Name) → (List Name → FeedLine → T → Type 0) → List Name → List FeedLine → List T → Type 0
+abbrev pub AreEach : {F T : Type 0} → (F → List Name) → (List Name → F → T → Type 0) → List Name → List F → List T → Type 0
 AreEach opens each names [] [] = ⊤
 AreEach opens each names [] (x ∷ xs) = ⊥
 AreEach opens each names (feed ∷ feeds) [] = ⊥
@@ -90,25 +102,21 @@ pub record HasFailedDocument {S M : Type 0} (left_of : S → Option (List ℕ)) 
 
 -- ---- feeds
 
--- the source of a feed from a file was opened at the feed's path; it has no uid, and the limit of the plan
-pub record IsSourceOf {S : Type 0} (left_of : S → Option (List ℕ)) (contents : Option Contents) (names : List Name) (feed : FeedLine) (source : FeedSource S) : Type 0 where
-  pub path : List ℕ
-  pub from : feed.from ≡ from.File path
-  pub opened : IsOpenedAt contents names (name.File path) (left_of source.source)
-  pub uid : source.uid ≡ None
-  pub limit : source.limit ≡ feed.limit
+-- the source of a feed was opened under the feed's name; it has the uid that was asked for, and the limit of the plan
+pub record IsSourceOf {S : Type 0} (left_of : S → Option (List ℕ)) (contents : Option Contents) (names : List Name) (feed : FeedLine × StreamDoc) (source : FeedSource S) : Type 0 where
+  pub opened : IsOpenedAt contents names (feed_input feed) (left_of source.source)
+  pub uid : source.uid ≡ uid_from feed.0.from
+  pub limit : source.limit ≡ feed.0.limit
 
-pub record AreSourcesOf {S : Type 0} (left_of : S → Option (List ℕ)) (contents : Option Contents) (names : List Name) (feeds : List FeedLine) (sources : List (FeedSource S)) : Type 0 where
+pub record AreSourcesOf {S : Type 0} (left_of : S → Option (List ℕ)) (contents : Option Contents) (names : List Name) (feeds : List (FeedLine × StreamDoc)) (sources : List (FeedSource S)) : Type 0 where
   pub each : AreEach feed_name (IsSourceOf left_of contents) names feeds sources
 
--- where contents are told, the samples and the end are those of the text at the feed's path
-pub record IsToldOf {S : Type 0} (contents : Option Contents) (names : List Name) (feed : FeedLine) (x : Fed S) : Type 0 where
-  pub path : List ℕ
-  pub from : feed.from ≡ from.File path
-  pub told : (texts : Contents) → contents ≡ Some texts → (text : List ℕ) × (slice_get (texts (name.File path)) (place_of names (name.File path)) ≡ Some text)
+-- where contents are told, the samples and the end are those of the text under the feed's name
+pub record IsToldOf {S : Type 0} (contents : Option Contents) (names : List Name) (feed : FeedLine × StreamDoc) (x : Fed S) : Type 0 where
+  pub told : (texts : Contents) → contents ≡ Some texts → (text : List ℕ) × (slice_get (texts (feed_input feed)) (place_of names (feed_input feed)) ≡ Some text)
       × IsReadingOf feed_kind (feed_of x.stream x.feed) text x.samples x.end
 
-pub record AreToldOf {S : Type 0} (contents : Option Contents) (names : List Name) (feeds : List FeedLine) (fed : List (Fed S)) : Type 0 where
+pub record AreToldOf {S : Type 0} (contents : Option Contents) (names : List Name) (feeds : List (FeedLine × StreamDoc)) (fed : List (Fed S)) : Type 0 where
   pub each : AreEach feed_name (IsToldOf contents) names feeds fed
 
 -- ---- what calls that open some of the inputs do, whatever was opened before them
@@ -131,13 +139,11 @@ pub record HasFailedHere {S M : Type 0} (left_of : S → Option (List ℕ)) (fau
   pub is : (contents : Option Contents) (names : List Name) → IsAfter contents before names → HasFailedDocument left_of faults_of mark_of contents names feeds
 
 -- a feed was opened
-pub record IsSourceOpened {S : Type 0} (left_of : S → Option (List ℕ)) (before now : Option Contents) (feed : FeedLine) (source : FeedSource S) : Type 0 where
-  pub path : List ℕ
-  pub from : feed.from ≡ from.File path
-  pub opened : Opens before now (name.File path) (left_of source.source)
-  pub uid : source.uid ≡ None
-  pub limit : source.limit ≡ feed.limit
+pub record IsSourceOpened {S : Type 0} (left_of : S → Option (List ℕ)) (before now : Option Contents) (feed : FeedLine × StreamDoc) (source : FeedSource S) : Type 0 where
+  pub opened : Opens before now (feed_input feed) (left_of source.source)
+  pub uid : source.uid ≡ uid_from feed.0.from
+  pub limit : source.limit ≡ feed.0.limit
 
-pub record AreSourcesOpened {S : Type 0} (left_of : S → Option (List ℕ)) (before now : Option Contents) (feeds : List FeedLine) (sources : List (FeedSource S)) : Type 0 where
+pub record AreSourcesOpened {S : Type 0} (left_of : S → Option (List ℕ)) (before now : Option Contents) (feeds : List (FeedLine × StreamDoc)) (sources : List (FeedSource S)) : Type 0 where
   pub are : (contents : Option Contents) (names : List Name) → IsAfter contents before names → AreSourcesOf left_of contents names feeds sources
   pub left : (contents : Option Contents) (names : List Name) → IsAfter contents before names → IsAfter contents now (names ++ names_of feed_name feeds)

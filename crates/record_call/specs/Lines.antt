@@ -1,7 +1,7 @@
 -- The lines that a recording says. This project's own.
 use Rattle.std.specs.Prelude.{ℕ, List, [], ◌∷◌, ◌++◌, map, codes}
 use Rattle.std.specs.Fmt.{decimal}
-use Rattle.record_run.specs.declared.report.FeedReport.{FeedReport}
+use Rattle.run_model.specs.declared.report.FeedReport.{FeedReport}
 use Rattle.record_call.specs.Ends.{end_text}
 
 -- how many samples of a feed were received, how many are in the file, how many the ledger names, and how the feed ended

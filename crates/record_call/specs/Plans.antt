@@ -1,15 +1,10 @@
 -- The plan of a recording. This project's own.
-use Rattle.std.specs.Prelude.{◌≡◌, ℕ, Bool, true, false, ◌&&◌, List, [], Option, Ok, Err}
-use Rattle.std.specs.List.{list_all}
+use Rattle.std.specs.Prelude.{◌≡◌, ℕ, List, [], Option, Ok, Err}
 use Rattle.rec_base.specs.declared.name.Name.TheVariants as name
 use Rattle.rec_base.specs.Contents.{Contents}
 use Rattle.rec_base.specs.Moved.{HasFailed}
 use Rattle.dock_calls.specs.Places.{IsInputAt, IsOpenedAt}
 use Rattle.plan_model.specs.declared.top.Top.TheVariants.{Record}
-use Rattle.plan_model.specs.declared.plan.FeedFrom.{FeedFrom}
-use Rattle.plan_model.specs.declared.plan.FeedFrom.TheVariants as from
-use Rattle.plan_model.specs.declared.plan.Mode.{Mode}
-use Rattle.plan_model.specs.declared.plan.Mode.TheVariants.{Threads, Turns}
 use Rattle.plan_model.specs.declared.plan.Plan.{Plan}
 use Rattle.plan_model.specs.Plan.{plan_in}
 use Rattle.plan_model.specs.Commands.{command_in, record_plan}
@@ -39,15 +34,3 @@ pub record HasFailedPlan {S M : Type 0} (left_of : S → Option (List ℕ)) (fau
   pub last : S
   pub source : IsOpenedAt contents [] (name.File path) (left_of first)
   pub failed : HasFailed left_of faults_of mark_of first last
-
--- the plan can be recorded: it is one by turns, and each of its feeds is in a file. Other plans aren't served yet.
-abbrev pub is_turns : Mode → Bool
-is_turns Threads = false
-is_turns Turns = true
-
-abbrev pub is_file : FeedFrom → Bool
-is_file (from.File path) = true
-is_file (from.Tcp host port uid) = false
-
-abbrev pub is_served : Plan → Bool
-is_served plan = is_turns plan.mode && list_all (λ feed. is_file feed.from) plan.feeds

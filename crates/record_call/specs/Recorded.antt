@@ -1,34 +1,35 @@
 -- What is recorded, and what is left of it.
-use Rattle.std.specs.Prelude.{◌≡◌, ◌≢◌, ℕ, true, ◌<◌, ◌≤◌, List, [], ◌∷◌, length, map, Option}
+use Rattle.std.specs.Prelude.{◌≡◌, ℕ, ◌<◌, ◌≤◌, List, [], ◌∷◌, length, map, Option}
+use Rattle.std.specs.List.{zip}
 use Rattle.rec_base.specs.declared.name.Name.TheVariants as name
 use Rattle.rec_base.specs.Contents.{Contents}
 use Rattle.rec_base.specs.Known.{Becomes, BecomesFront}
 use Rattle.chunk_grammar.specs.declared.chunk.Chunk.{Chunk}
 use Rattle.chunk_grammar.specs.Chunk.{least_file_text}
+use Rattle.plan_model.specs.declared.plan.Mode.{Mode}
 use Rattle.plan_model.specs.declared.plan.Plan.{Plan}
 use Rattle.recording_model.specs.declared.stream.StreamDoc.{StreamDoc}
 use Rattle.recording_model.specs.Batch.{Batch}
 use Rattle.recording_model.specs.Recording.{IsRecording}
 use Rattle.record_writer.specs.Desk.{capped}
-use Rattle.record_run.specs.declared.feed.FeedSource.{FeedSource}
-use Rattle.record_run.specs.declared.report.FeedReport.{FeedReport}
+use Rattle.run_model.specs.declared.feed.FeedSource.{FeedSource}
+use Rattle.run_model.specs.declared.report.FeedReport.{FeedReport}
 use Rattle.record_run.specs.Cost.{cost_of}
-use Rattle.record_run.specs.Recorders.{AreNumbers}
-use Rattle.record_run.specs.Run.{Fed, IsRun, report_of}
+use Rattle.run_model.specs.Fitting.{AreNumbers}
+use Rattle.run_model.specs.Run.{Fed, IsRun, report_of}
 use Rattle.plan_model.specs.Sound.{IsPlan}
 use Rattle.record_call.specs.Feeds.{document_name, names_of, AreStreamsOf, AreSourcesOf, AreToldOf, HasNoStream, HasFailedDocument}
 use Rattle.record_call.specs.Lines.{record_lines}
-use Rattle.record_call.specs.Plans.{IsPlanned, is_served}
+use Rattle.record_call.specs.Plans.{IsPlanned}
 
 -- the most bytes that the rings of a plan may cost
 abbrev pub cost_limit : ℕ
 cost_limit = 1_073_741_824
 
--- the plan that the words ask for is served, and its feeds have these streams
+-- the feeds of the plan that the words ask for have these streams
 pub record HasStreams (contents : Option Contents) (words : List (List ℕ)) (out : List ℕ) (plan : Plan) (streams : List StreamDoc) : Type 0 where
   pub path : List ℕ
   pub planned : IsPlanned contents words path out plan
-  pub served : is_served plan ≡ true
   pub streams_of : AreStreamsOf contents (name.File path ∷ []) plan.feeds streams
 
 -- what the rings of these streams cost in this plan
@@ -57,42 +58,32 @@ pub record IsTooMuch (contents : Option Contents) (words : List (List ℕ)) (cos
   pub is : cost ≡ asked_cost plan streams
   pub over : cost_limit < cost
 
--- the plan that the words ask for is a plan, and isn't served
-pub record IsUnserved (contents : Option Contents) (words : List (List ℕ)) : Type 0 where
-  pub path : List ℕ
-  pub out : List ℕ
-  pub plan : Plan
-  pub planned : IsPlanned contents words path out plan
-  pub not_served : is_served plan ≢ true
-
--- the feed of this id is the first of a served plan whose header document is none
+-- the feed of this id is the first of the plan whose header document is none
 pub record HasNoDocument (contents : Option Contents) (words : List (List ℕ)) (id : ℕ) : Type 0 where
   pub path : List ℕ
   pub out : List ℕ
   pub plan : Plan
   pub planned : IsPlanned contents words path out plan
-  pub served : is_served plan ≡ true
   pub none : HasNoStream contents (name.File path ∷ []) plan.feeds id
 
--- a read of a header document of a served plan failed
+-- a read of a header document of the plan failed
 pub record HasUnreadDocument {S M : Type 0} (left_of : S → Option (List ℕ)) (faults_of : S → ℕ) (mark_of : S → M) (contents : Option Contents) (words : List (List ℕ)) : Type 0 where
   pub path : List ℕ
   pub out : List ℕ
   pub plan : Plan
   pub planned : IsPlanned contents words path out plan
-  pub served : is_served plan ≡ true
   pub failed : HasFailedDocument left_of faults_of mark_of contents (name.File path ∷ []) plan.feeds
 
--- the recording of the plan that the words ask for: the chunks are the recording by turns of its feeds, whose sources were opened in order behind
--- the documents, and where contents are told, what was received of each is what its text holds
+-- the recording of the plan that the words ask for: the chunks are the recording of its feeds in its mode, the feeds' sources were opened in order
+-- behind the documents, and where contents are told, what was received of each is what its text holds
 pub record IsRecordingOf {S M : Type 0} (left_of : S → Option (List ℕ)) (faults_of : S → ℕ) (mark_of : S → M) (contents : Option Contents) (words : List (List ℕ)) (out : List ℕ) (fed : List (Fed S)) (chunks : List Chunk) : Type 0 where
   pub plan : Plan
   pub streams : List StreamDoc
   pub asked : IsAsked contents words out plan streams
   pub sources : List (FeedSource S)
-  pub opened : AreSourcesOf left_of contents (name.File asked.has.path ∷ names_of document_name plan.feeds) plan.feeds sources
-  pub run : IsRun left_of faults_of mark_of plan.ring plan.batch streams sources fed chunks
-  pub told : AreToldOf contents (name.File asked.has.path ∷ names_of document_name plan.feeds) plan.feeds fed
+  pub opened : AreSourcesOf left_of contents (name.File asked.has.path ∷ names_of document_name plan.feeds) (zip plan.feeds streams) sources
+  pub run : IsRun left_of faults_of mark_of plan.mode plan.ring plan.batch streams sources fed chunks
+  pub told : AreToldOf contents (name.File asked.has.path ∷ names_of document_name plan.feeds) (zip plan.feeds streams) fed
 
 -- the lines of the recording of these feeds
 abbrev pub lines_of : {S : Type 0} → List (Fed S) → List Chunk → List (List ℕ)
@@ -119,24 +110,25 @@ pub record IsCutFile (contents : Option Contents) (words : List (List ℕ)) (tar
   pub cut : IsCut streams out target target' held held'
 
 -- the file of this name is the recording of these feeds, and what is reported is so
-pub record IsWritten {S M : Type 0} (left_of : S → Option (List ℕ)) (faults_of : S → ℕ) (mark_of : S → M) (ring batch : ℕ) (streams : List StreamDoc) (feeds : List (FeedSource S)) (out : List ℕ) (target target' held held' : Option (List ℕ)) (reports : List FeedReport) (bytes count : ℕ) : Type 0 where
+pub record IsWritten {S M : Type 0} (left_of : S → Option (List ℕ)) (faults_of : S → ℕ) (mark_of : S → M) (mode : Mode) (ring batch : ℕ) (streams : List StreamDoc) (feeds : List (FeedSource S)) (out : List ℕ) (target target' held held' : Option (List ℕ)) (reports : List FeedReport) (bytes count : ℕ) : Type 0 where
   pub fed : List (Fed S)
   pub chunks : List Chunk
-  pub run : IsRun left_of faults_of mark_of ring batch streams feeds fed chunks
+  pub run : IsRun left_of faults_of mark_of mode ring batch streams feeds fed chunks
   pub created : Becomes target target' out
   pub text : Becomes held held' (least_file_text chunks)
   pub told : reports ≡ map (report_of chunks) fed
   pub size : bytes ≡ capped (length (least_file_text chunks))
   pub chunk_count : count ≡ capped (length chunks)
 
--- the plan that the words ask for can be recorded with rings and batches of these sizes, as these streams, and these sources of its feeds are open
-pub record IsReady {S : Type 0} (left_of : S → Option (List ℕ)) (contents : Option Contents) (words : List (List ℕ)) (out : List ℕ) (ring batch : ℕ) (streams : List StreamDoc) (sources : List (FeedSource S)) : Type 0 where
+-- the plan that the words ask for can be recorded in this mode, with rings and batches of these sizes, as these streams, and these sources of its feeds are open
+pub record IsReady {S : Type 0} (left_of : S → Option (List ℕ)) (contents : Option Contents) (words : List (List ℕ)) (out : List ℕ) (mode : Mode) (ring batch : ℕ) (streams : List StreamDoc) (sources : List (FeedSource S)) : Type 0 where
   pub plan : Plan
+  pub mode_is : mode ≡ plan.mode
   pub ring_is : ring ≡ plan.ring
   pub batch_is : batch ≡ plan.batch
   pub sound : IsPlan out plan
   pub asked : IsAsked contents words out plan streams
-  pub opened : AreSourcesOf left_of contents (name.File asked.has.path ∷ names_of document_name plan.feeds) plan.feeds sources
+  pub opened : AreSourcesOf left_of contents (name.File asked.has.path ∷ names_of document_name plan.feeds) (zip plan.feeds streams) sources
 
 -- the output is the recording of these feeds that the words ask for
 pub record IsFileOf {S M : Type 0} (left_of : S → Option (List ℕ)) (faults_of : S → ℕ) (mark_of : S → M) (contents : Option Contents) (words : List (List ℕ)) (target target' held held' : Option (List ℕ)) (fed : List (Fed S)) (chunks : List Chunk) : Type 0 where

@@ -2,7 +2,7 @@
 use Rattle.std.specs.Prelude.{ℕ, Bool, cond, ◌==◌, ◌||◌, List, codes}
 
 abbrev pub is_status : ℕ → Bool
-is_status n = n == 0 || n == 1 || n == 2 || n == 3 || n == 4 || n == 5 || n == 6 || n == 7 || n == 8 || n == 9 || n == 10
+is_status n = n == 0 || n == 1 || n == 2 || n == 3 || n == 4 || n == 5 || n == 6 || n == 7 || n == 8 || n == 9
 
 -- the file was written, and all lines were said
 abbrev pub is_recorded : ℕ → Bool
@@ -10,11 +10,11 @@ is_recorded n = n == 0 || n == 1
 
 -- no file was created
 abbrev pub is_without_file : ℕ → Bool
-is_without_file n = n == 2 || n == 3 || n == 4 || n == 6 || n == 7 || n == 10
+is_without_file n = n == 2 || n == 3 || n == 4 || n == 6 || n == 7
 
 -- the line of the fault is its status alone
 abbrev pub has_plain_line : ℕ → Bool
-has_plain_line n = n == 4 || n == 5 || n == 9 || n == 10
+has_plain_line n = n == 4 || n == 5 || n == 9
 
 abbrev pub plain_text : ℕ → List ℕ
-plain_text n = cond (n == 4) (codes "fault 4") (cond (n == 5) (codes "fault 5") (cond (n == 9) (codes "fault 9") (codes "fault 10")))
+plain_text n = cond (n == 4) (codes "fault 4") (cond (n == 5) (codes "fault 5") (codes "fault 9"))

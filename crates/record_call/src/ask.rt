@@ -9,18 +9,18 @@ ghost use Rattle.plan_model.specs.Commands.{command_in, record_plan};
 ghost use Rattle.plan_model.specs.Sound.{IsPlan};
 ghost use Rattle.record_call.specs.Feeds.{document_name, names_of};
 ghost use Rattle.record_call.specs.Plans.{IsRefused, HasFailedPlan};
-ghost use Rattle.record_call.specs.Recorded.{IsAsked, IsTooMuch, IsUnserved, HasNoDocument, HasUnreadDocument};
+ghost use Rattle.record_call.specs.Recorded.{IsAsked, IsTooMuch, HasNoDocument, HasUnreadDocument};
 
 use crate::cost::check_cost;
 use crate::document::open_streams;
 use crate::fault::RecordFault;
-use crate::plan::{is_served, open_plan};
+use crate::plan::open_plan;
 use plan_words::Plan;
 use rec_base::{Dock, Lines, Sink, Source, Word};
 use record_run::StreamDoc;
 use std::alloc::Global;
 
-/// A plan that can be recorded, and the streams of its feeds.
+/// A plan, and the streams of its feeds.
 #[derive(Debug, Drop)]
 pub(crate) struct Asked {
     pub(crate) plan: Plan,
@@ -41,13 +41,12 @@ pub(crate) fn read_asked<D: Dock>(
     ensures after { IfOk result (λ asked. IsAfter (D.contents dock.old) (D.contents dock.new) (NameValue.File path.now ∷ names_of document_name asked.plan.feeds)) }
     ensures sound { IfOk result (λ asked. IsPlan out.now asked.plan) }
     ensures refused { (line why : ℕ) → IsErrOf result (RecordFault.Plan line why) → IsRefused (D.contents dock.old) words.now line why }
-    ensures unserved { IsErrOf result RecordFault.Unserved → IsUnserved (D.contents dock.old) words.now }
     ensures none { (id : ℕ) → IsErrOf result (RecordFault.Document id) → HasNoDocument (D.contents dock.old) words.now id }
     ensures cost { (cost : ℕ) → IsErrOf result (RecordFault.Cost cost) → IsTooMuch (D.contents dock.old) words.now cost }
     ensures failed { IsErrOf result RecordFault.Open → Rose (D.open_faults dock.old) (D.open_faults dock.new)
         ⊎ HasFailedPlan D.Source.left D.Source.faults D.Source.mark (D.contents dock.old) words.now
         ⊎ HasUnreadDocument D.Source.left D.Source.faults D.Source.mark (D.contents dock.old) words.now }
-    ensures none_else { IsErr result → IsErrOf result RecordFault.Open ⊎ IsErrOf result RecordFault.Memory ⊎ IsErrOf result RecordFault.Unserved
+    ensures none_else { IsErr result → IsErrOf result RecordFault.Open ⊎ IsErrOf result RecordFault.Memory
         ⊎ ((line : ℕ) × (why : ℕ) × IsErrOf result (RecordFault.Plan line why)) ⊎ ((id : ℕ) × IsErrOf result (RecordFault.Document id))
         ⊎ ((cost : ℕ) × IsErrOf result (RecordFault.Cost cost)) }
     ensures later { D.open_faults dock.old ≤ D.open_faults dock.new }
@@ -57,9 +56,6 @@ pub(crate) fn read_asked<D: Dock>(
     ensures print_faults { D.print_faults dock.new ≡ D.print_faults dock.old }
 {
     let plan = open_plan(alloc, dock, path, out)?;
-    if !is_served(&plan) {
-        return Err(RecordFault::Unserved);
-    }
     let streams = open_streams(alloc, dock, &plan.feeds)?;
     check_cost(alloc, plan.ring, &streams)?;
     Ok(Asked { plan, streams })

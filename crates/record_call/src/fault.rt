@@ -31,9 +31,6 @@ pub(crate) enum RecordFault {
     /// There is no memory.
     #[error("out of memory")]
     Memory,
-    /// The plan isn't served yet.
-    #[error("the plan isn't served yet")]
-    Unserved,
 }
 
 impl From<Memory> for RecordFault {

@@ -1,12 +1,15 @@
 use crate::test_dock::*;
 use std::alloc::Global;
+use std::rt::Clock;
+use std::sync::Wait;
 use std::test::Fail;
+use std::thread::Threads;
 
 const RECORD: &[&str] = &["record", "p", "out"];
 
 // Whether a fault is told in this line, with no output.
 fn tells(
-    alloc: Global,
+    rt: &(impl AllocGlobal + Threads + Wait + Clock + Sync),
     plan: &[u8],
     fails: Fails,
     status: u8,
@@ -17,8 +20,8 @@ fn tells(
         printed,
         creates: false,
     };
-    let feed = three_samples(alloc)?;
-    records_plan(alloc, plan, &feed, fails, want)
+    let feed = three_samples(rt.alloc())?;
+    records_plan(rt, plan, &feed, fails, want)
 }
 
 #[test]
@@ -35,7 +38,7 @@ fn words_that_are_no_command_are_told(rt: HostRuntime) -> Result<(), Fail> {
             printed,
             creates: false,
         };
-        assert!(rt; records(rt.alloc(), words, &[], NONE, want)?);
+        assert!(rt; records(&rt, words, &[], NONE, want)?);
     }
     Ok(())
 }
@@ -54,10 +57,7 @@ fn a_refused_plan_is_told_by_line_and_reason(rt: HostRuntime) -> Result<(), Fail
         ("feed 1 doc h file out\n", "fault 3 line 1 why 9\n"),
         ("mode threads\nfrob\n", "fault 3 line 2 why 1\n"),
     ] {
-        assert!(rt;
-            tells(rt.alloc(), plan.as_bytes(), NONE, 3, printed)?,
-            "{plan}"
-        );
+        assert!(rt; tells(&rt, plan.as_bytes(), NONE, 3, printed)?, "{plan}");
     }
     Ok(())
 }
@@ -67,7 +67,7 @@ fn what_is_too_long_is_refused(rt: HostRuntime) -> Result<(), Fail> {
     let alloc: Global = rt.alloc();
     let mut long = Vec::new(alloc);
     long.resize(1_048_577, 10)?;
-    assert!(rt; tells(alloc, &long, NONE, 3, "fault 3 line 0 why 10\n")?);
+    assert!(rt; tells(&rt, &long, NONE, 3, "fault 3 line 0 why 10\n")?);
     let want = Want {
         status: 6,
         printed: "fault 6 feed 7\n",
@@ -77,7 +77,7 @@ fn what_is_too_long_is_refused(rt: HostRuntime) -> Result<(), Fail> {
         file("p", b"mode turns\nfeed 7 doc h file a\n"),
         file("h", &long),
     ];
-    assert!(rt; records(alloc, RECORD, &files, NONE, want)?);
+    assert!(rt; records(&rt, RECORD, &files, NONE, want)?);
     Ok(())
 }
 
@@ -95,7 +95,7 @@ fn the_first_document_without_a_shape_is_told(rt: HostRuntime) -> Result<(), Fai
         file("k", b"<info></info>"),
         file("k", INT16_DOCUMENT),
     ];
-    assert!(rt; records(rt.alloc(), RECORD, &files, NONE, want)?);
+    assert!(rt; records(&rt, RECORD, &files, NONE, want)?);
     Ok(())
 }
 
@@ -112,22 +112,7 @@ fn rings_that_cost_too_much_are_told(rt: HostRuntime) -> Result<(), Fail> {
         file("p", b"mode turns\nring 1048576\nfeed 1 doc h file a\n"),
         file("h", document),
     ];
-    assert!(rt; records(rt.alloc(), RECORD, &files, NONE, want)?);
-    Ok(())
-}
-
-#[test]
-fn a_plan_that_is_not_served_is_told(rt: HostRuntime) -> Result<(), Fail> {
-    for plan in [
-        "mode threads\nfeed 1 doc h file a\n",
-        "feed 1 doc x file x\n",
-        "mode turns\nfeed 1 doc h file a\nfeed 2 doc x tcp m 16572 u1\n",
-    ] {
-        assert!(rt;
-            tells(rt.alloc(), plan.as_bytes(), NONE, 10, "fault 10\n")?,
-            "{plan}"
-        );
-    }
+    assert!(rt; records(&rt, RECORD, &files, NONE, want)?);
     Ok(())
 }
 
@@ -136,15 +121,15 @@ fn an_input_that_cant_be_opened_or_read_is_told(rt: HostRuntime) -> Result<(), F
     let plan = b"mode turns\nfeed 1 doc h file a\n";
     for open in 1..5 {
         let fails = Fails { open, ..NONE };
-        assert!(rt; tells(rt.alloc(), plan, fails, 4, "fault 4\n")?, "{open}");
+        assert!(rt; tells(&rt, plan, fails, 4, "fault 4\n")?, "{open}");
     }
     let cut = TestFile {
-        path: "p",
+        at: At::Path("p"),
         bytes: plan,
         fails: true,
     };
     let cut_document = TestFile {
-        path: "h",
+        at: At::Path("h"),
         bytes: INT16_DOCUMENT,
         fails: true,
     };
@@ -153,15 +138,7 @@ fn an_input_that_cant_be_opened_or_read_is_told(rt: HostRuntime) -> Result<(), F
         printed: "fault 4\n",
         creates: false,
     };
-    assert!(rt; records(rt.alloc(), RECORD, &[cut], NONE, want)?);
-    assert!(rt;
-        records(
-            rt.alloc(),
-            RECORD,
-            &[file("p", plan), cut_document],
-            NONE,
-            want
-        )?
-    );
+    assert!(rt; records(&rt, RECORD, &[cut], NONE, want)?);
+    assert!(rt; records(&rt, RECORD, &[file("p", plan), cut_document], NONE, want)?);
     Ok(())
 }

@@ -1,61 +1,91 @@
 //! The sources of the feeds.
 
-ghost use Rattle.std.specs.Prelude.{◌≡◌, ◌≢◌, ◌≤◌, ◌⊎◌, true, IfOk, IsErr, IsErrOf};
-ghost use Rattle.std.specs.List.{list_all};
+ghost use Rattle.std.specs.Prelude.{◌≡◌, ◌≤◌, ◌⊎◌, length, IfOk, IsErr, IsErrOf};
+ghost use Rattle.std.specs.List.{zip};
 ghost use Rattle.rec_base.specs.Causes.{Rose};
-ghost use Rattle.record_call.specs.Feeds.{IsSourceOpened, AreSourcesOpened};
-ghost use Rattle.record_call.specs.Plans.{is_file};
+ghost use Rattle.record_call.specs.Feeds.{IsSourceOpened, AreSourcesOpened, input_from, uid_from};
 
 use crate::fault::RecordFault;
+use feed_reply::request_text;
 use plan_words::{FeedFrom, FeedLine, FeedLines};
-use rec_base::{Dock, Failed, Lines, Name, Sink, Source, Word};
-use record_run::FeedSource;
+use rec_base::{Blob, Dock, Failed, Lines, Memory, Name, Sink, Source, Word};
+use record_run::{FeedSource, StreamDoc};
 use std::alloc::Global;
+use xdf_model::Shape;
+
+fn copy(alloc: Global, word: &Word) -> Result<Word, Memory>
+    ensures { IfOk result (λ copy. copy ≡ word.now) }
+{
+    Word::from_bytes(alloc, word.bytes())
+}
+
+// The name under which a feed of samples of this shape is opened. An outlet's has the request.
+fn input_from(alloc: Global, from: &FeedFrom, shape: &Shape) -> Result<Name, Memory>
+    ensures { IfOk result (λ name. name ≡ input_from from.now shape.now) }
+{
+    match from {
+        FeedFrom::File(path) => Ok(Name::File(copy(alloc, path)?)),
+        FeedFrom::Tcp { host, port, uid } => {
+            let mut request = Vec::new(alloc);
+            request_text(uid.bytes(), shape, &mut request)?;
+            Ok(Name::Peer {
+                host: copy(alloc, host)?,
+                port: *port,
+                request: Blob::from_vec(request),
+            })
+        }
+    }
+}
+
+// The uid that the reply must have.
+fn uid_from(alloc: Global, from: &FeedFrom) -> Result<Option<Word>, Memory>
+    ensures { IfOk result (λ uid. uid ≡ uid_from from.now) }
+{
+    match from {
+        FeedFrom::File(_) => Ok(None),
+        FeedFrom::Tcp { uid, .. } => Ok(Some(copy(alloc, uid)?)),
+    }
+}
 
 // Opens a feed. Once it is open, a read that fails is its end.
 fn open_feed<D: Dock>(
     alloc: Global,
     dock: &mut D,
     feed: &FeedLine,
+    stream: &StreamDoc,
 ) -> Result<FeedSource<D::Source>, RecordFault>
-    ensures opened { IfOk result (λ source. IsSourceOpened D.Source.left (D.contents dock.old) (D.contents dock.new) feed.now source) }
-    ensures unserved { IsErrOf result RecordFault.Unserved → is_file feed.now.from ≢ true }
+    ensures opened { IfOk result (λ source. IsSourceOpened D.Source.left (D.contents dock.old) (D.contents dock.new) (feed.now, stream.now) source) }
     ensures failed { IsErrOf result RecordFault.Open → Rose (D.open_faults dock.old) (D.open_faults dock.new) }
-    ensures none_else { IsErr result → IsErrOf result RecordFault.Open ⊎ IsErrOf result RecordFault.Memory ⊎ IsErrOf result RecordFault.Unserved }
+    ensures none_else { IsErr result → IsErrOf result RecordFault.Open ⊎ IsErrOf result RecordFault.Memory }
     ensures later { D.open_faults dock.old ≤ D.open_faults dock.new }
     ensures target { D.target dock.new ≡ D.target dock.old }
     ensures held { D.held dock.new ≡ D.held dock.old }
     ensures printed { D.printed dock.new ≡ D.printed dock.old }
     ensures print_faults { D.print_faults dock.new ≡ D.print_faults dock.old }
 {
-    let path = match &feed.from {
-        FeedFrom::File(path) => path,
-        FeedFrom::Tcp { .. } => return Err(RecordFault::Unserved),
-    };
-    let word = match Word::from_bytes(alloc, path.bytes()) {
-        Ok(word) => word,
-        Err(_) => return Err(RecordFault::Memory),
-    };
-    match dock.open(&Name::File(word)) {
+    let name = input_from(alloc, &feed.from, &stream.shape)?;
+    let uid = uid_from(alloc, &feed.from)?;
+    match dock.open(&name) {
         Ok(source) => Ok(FeedSource {
             source,
-            uid: None,
+            uid,
             limit: feed.limit,
         }),
         Err(Failed) => Err(RecordFault::Open),
     }
 }
 
-/// Opens the feeds in order.
+/// Opens the feeds in order, each as it becomes the stream at its place.
 pub(crate) fn open_feeds<D: Dock>(
     alloc: Global,
     dock: &mut D,
     feeds: &FeedLines,
+    streams: &[StreamDoc],
 ) -> Result<Vec<FeedSource<D::Source>>, RecordFault>
-    ensures opened { IfOk result (λ sources. AreSourcesOpened D.Source.left (D.contents dock.old) (D.contents dock.new) feeds.now sources.items) }
-    ensures unserved { IsErrOf result RecordFault.Unserved → list_all (λ feed. is_file feed.from) feeds.now ≢ true }
+    requires streams { length streams.now ≡ length feeds.now }
+    ensures opened { IfOk result (λ sources. AreSourcesOpened D.Source.left (D.contents dock.old) (D.contents dock.new) (zip feeds.now streams.now) sources.items) }
     ensures failed { IsErrOf result RecordFault.Open → Rose (D.open_faults dock.old) (D.open_faults dock.new) }
-    ensures none_else { IsErr result → IsErrOf result RecordFault.Open ⊎ IsErrOf result RecordFault.Memory ⊎ IsErrOf result RecordFault.Unserved }
+    ensures none_else { IsErr result → IsErrOf result RecordFault.Open ⊎ IsErrOf result RecordFault.Memory }
     ensures later { D.open_faults dock.old ≤ D.open_faults dock.new }
     ensures target { D.target dock.new ≡ D.target dock.old }
     ensures held { D.held dock.new ≡ D.held dock.old }
@@ -67,7 +97,7 @@ pub(crate) fn open_feeds<D: Dock>(
         let Some(feed) = feeds.get(i) else {
             return Err(RecordFault::Memory);
         };
-        let source = open_feed(alloc, dock, feed)?;
+        let source = open_feed(alloc, dock, feed, &streams[i])?;
         match sources.push(source) {
             Ok(()) => {}
             Err(_) => return Err(RecordFault::Memory),

@@ -6,16 +6,20 @@ ghost use Rattle.plan_model.specs.declared.top.Top.TheVariants.{Record as top_re
 ghost use Rattle.plan_model.specs.Commands.{command_in};
 ghost use Rattle.dock_calls.specs.Said.{is_usage};
 ghost use Rattle.record_call.specs.Plans.{IsRefused, HasFailedPlan};
-ghost use Rattle.record_call.specs.Recorded.{IsFileWritten, IsCreated, IsCutFile, IsTooMuch, IsUnserved, HasNoDocument, HasTexts, HasUnreadDocument};
+ghost use Rattle.record_call.specs.Recorded.{IsFileWritten, IsCreated, IsCutFile, IsTooMuch, HasNoDocument, HasTexts, HasUnreadDocument};
 
 use crate::fault::RecordFault;
 use crate::ready::{Ready, make_ready};
-use crate::run::{Written, record_turns};
+use crate::run::{Written, record_feeds};
 use rec_base::{Dock, Lines, Sink, Source, Word};
 use std::alloc::Global;
+use std::rt::Clock;
+use std::sync::Wait;
+use std::thread::Threads;
 
 /// Records what the words ask for. Nothing is said.
-pub(crate) fn write_file<D: Dock>(
+pub(crate) fn write_file<D: Dock, R: Threads + Wait + Clock + Sync>(
+    rt: &R,
     alloc: Global,
     words: &[Word],
     dock: &mut D,
@@ -26,7 +30,6 @@ pub(crate) fn write_file<D: Dock>(
     ensures known { (why : ℕ) → IsErrOf result (RecordFault.Usage why) → IsTrue (is_usage why) }
     ensures used { IsErr (command_in top_record words.now) → (why : ℕ) × IsErrOf result (RecordFault.Usage why) }
     ensures refused { (line why : ℕ) → IsErrOf result (RecordFault.Plan line why) → IsRefused (D.contents dock.old) words.now line why }
-    ensures unserved { IsErrOf result RecordFault.Unserved → IsUnserved (D.contents dock.old) words.now }
     ensures none { (id : ℕ) → IsErrOf result (RecordFault.Document id) → HasNoDocument (D.contents dock.old) words.now id }
     ensures cost { (cost : ℕ) → IsErrOf result (RecordFault.Cost cost) → IsTooMuch (D.contents dock.old) words.now cost }
     ensures failed { IsErrOf result RecordFault.Open → Rose (D.open_faults dock.old) (D.open_faults dock.new)
@@ -47,9 +50,9 @@ pub(crate) fn write_file<D: Dock>(
 {
     let Ready {
         out,
-        sizes,
+        settings,
         streams,
         feeds,
     } = make_ready(alloc, words, dock)?;
-    record_turns(alloc, dock, out, sizes, streams, feeds)
+    record_feeds(rt, alloc, dock, out, settings, streams, feeds)
 }

@@ -1,7 +1,7 @@
 //! The top call of `record`: from the words of the command line to the file and its lines.
 //!
 //! [`record_main`] works in a fixed order, and the first refusal decides: the words; the plan's text
-//! and the plan; whether the plan is served; the header documents; the cost of the rings; the feeds;
+//! and the plan; the header documents; the cost of the rings; the feeds;
 //! the memory of the run; the output; the run; the lines. It promises that with status 0 or 1 the file
 //! is the recording of the feeds that the plan names, each taken from its place among the inputs of one
 //! name, and for every other status its cause, what was written, and the line that was said. The words,
@@ -28,6 +28,10 @@ pub use record::record_main;
 
 #[cfg(test)]
 mod fault_tests;
+#[cfg(test)]
+mod live_tests;
+#[cfg(test)]
+mod peer_tests;
 #[cfg(test)]
 mod size_tests;
 #[cfg(test)]

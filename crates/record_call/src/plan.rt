@@ -1,18 +1,16 @@
 //! The plan of a recording.
 
 ghost use Rattle.std.specs.Prelude.{◌≡◌, ◌≤◌, ◌⊎◌, List, ℕ, [], IfOk, IsErr, IsErrOf, Ok, Err, Some};
-ghost use Rattle.std.specs.List.{list_all};
 ghost use Rattle.rec_base.specs.Causes.{Rose};
 ghost use Rattle.rec_base.specs.Contents.{Opens, IsInput, IsOpened};
 ghost use Rattle.rec_base.specs.Moved.{HasFailed};
 ghost use Rattle.rec_base.specs.declared.name.Name.{Name as NameValue};
 ghost use Rattle.plan_model.specs.Plan.{plan_in};
 ghost use Rattle.plan_model.specs.Sound.{IsPlan};
-ghost use Rattle.record_call.specs.Plans.{is_file, is_turns, is_served};
 
 use crate::fault::RecordFault;
 use dock_calls::{InputFault, read_input};
-use plan_words::{FeedFrom, FeedLines, Mode, Plan, PlanError, read_plan};
+use plan_words::{Plan, PlanError, read_plan};
 use rec_base::{Dock, Lines, Sink, Source, Word};
 use std::alloc::Global;
 
@@ -65,39 +63,5 @@ pub(crate) fn open_plan<D: Dock>(
         }),
         Err(InputFault::Open) => Err(RecordFault::Open),
         Err(InputFault::Memory) => Err(RecordFault::Memory),
-    }
-}
-
-fn is_file(from: &FeedFrom) -> bool
-    ensures { result ≡ is_file from.now }
-{
-    match from {
-        FeedFrom::File(_) => true,
-        FeedFrom::Tcp { .. } => false,
-    }
-}
-
-// Whether all feeds are in files.
-fn are_files(feeds: &FeedLines) -> bool
-    ensures { result ≡ list_all (λ feed. is_file feed.from) feeds.now }
-{
-    for i in 0..feeds.len() {
-        let Some(feed) = feeds.get(i) else {
-            return true;
-        };
-        if !is_file(&feed.from) {
-            return false;
-        }
-    }
-    true
-}
-
-/// Whether a plan is one by turns whose feeds are all in files. Others aren't served yet.
-pub(crate) fn is_served(plan: &Plan) -> bool
-    ensures { result ≡ is_served plan.now }
-{
-    match plan.mode {
-        Mode::Threads => false,
-        Mode::Turns => are_files(&plan.feeds),
     }
 }

@@ -6,22 +6,22 @@ ghost use Rattle.plan_model.specs.declared.top.Top.TheVariants.{Record as top_re
 ghost use Rattle.plan_model.specs.Commands.{command_in};
 ghost use Rattle.dock_calls.specs.Said.{is_usage};
 ghost use Rattle.record_call.specs.Plans.{IsRefused, HasFailedPlan};
-ghost use Rattle.record_call.specs.Recorded.{IsReady, IsTooMuch, IsUnserved, HasNoDocument, HasUnreadDocument};
+ghost use Rattle.record_call.specs.Recorded.{IsReady, IsTooMuch, HasNoDocument, HasUnreadDocument};
 
 use crate::ask::{Asked, read_asked};
 use crate::fault::RecordFault;
 use crate::feed::open_feeds;
-use crate::run::Sizes;
+use crate::run::Settings;
 use crate::words::read_names;
 use rec_base::{Dock, Lines, Sink, Source, Word};
 use record_run::{FeedSource, StreamDoc};
 use std::alloc::Global;
 
-/// What the words ask for: where to, with which sizes, which streams, and the sources of the feeds.
+/// What the words ask for: where to, how, which streams, and the sources of the feeds.
 #[derive(Drop)]
 pub(crate) struct Ready<'w, S> {
     pub(crate) out: &'w Word,
-    pub(crate) sizes: Sizes,
+    pub(crate) settings: Settings,
     pub(crate) streams: Vec<StreamDoc>,
     pub(crate) feeds: Vec<FeedSource<S>>,
 }
@@ -33,12 +33,11 @@ pub(crate) fn make_ready<'w, D: Dock>(
     words: &'w [Word],
     dock: &mut D,
 ) -> Result<Ready<'w, D::Source>, RecordFault>
-    ensures ready { IfOk result (λ r. IsReady D.Source.left (D.contents dock.old) words.now r.out.now r.sizes.ring r.sizes.batch r.streams.items r.feeds.items) }
+    ensures ready { IfOk result (λ r. IsReady D.Source.left (D.contents dock.old) words.now r.out.now r.settings.mode r.settings.ring r.settings.batch r.streams.items r.feeds.items) }
     ensures usage { (why : ℕ) → IsErrOf result (RecordFault.Usage why) → command_in top_record words.now ≡ Err why }
     ensures known { (why : ℕ) → IsErrOf result (RecordFault.Usage why) → IsTrue (is_usage why) }
     ensures used { IsErr (command_in top_record words.now) → (why : ℕ) × IsErrOf result (RecordFault.Usage why) }
     ensures refused { (line why : ℕ) → IsErrOf result (RecordFault.Plan line why) → IsRefused (D.contents dock.old) words.now line why }
-    ensures unserved { IsErrOf result RecordFault.Unserved → IsUnserved (D.contents dock.old) words.now }
     ensures none { (id : ℕ) → IsErrOf result (RecordFault.Document id) → HasNoDocument (D.contents dock.old) words.now id }
     ensures cost { (cost : ℕ) → IsErrOf result (RecordFault.Cost cost) → IsTooMuch (D.contents dock.old) words.now cost }
     ensures failed { IsErrOf result RecordFault.Open → Rose (D.open_faults dock.old) (D.open_faults dock.new)
@@ -57,14 +56,15 @@ pub(crate) fn make_ready<'w, D: Dock>(
         Err(usage) => return Err(RecordFault::Usage(usage.why)),
     };
     let Asked { plan, streams } = read_asked(alloc, words, dock, path, out)?;
-    let feeds = open_feeds(alloc, dock, &plan.feeds)?;
-    let sizes = Sizes {
+    let feeds = open_feeds(alloc, dock, &plan.feeds, &streams)?;
+    let settings = Settings {
+        mode: plan.mode,
         ring: plan.ring,
         batch: plan.batch,
     };
     Ok(Ready {
         out,
-        sizes,
+        settings,
         streams,
         feeds,
     })

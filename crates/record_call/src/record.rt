@@ -10,11 +10,11 @@ ghost use Rattle.plan_model.specs.declared.top.Top.TheVariants.{Record as top_re
 ghost use Rattle.plan_model.specs.Commands.{command_in};
 ghost use Rattle.report_model.specs.Shown.{printed_lines};
 ghost use Rattle.dock_calls.specs.Said.{SaysFault, is_usage};
-ghost use Rattle.record_run.specs.Run.{Fed};
+ghost use Rattle.run_model.specs.Run.{Fed};
 ghost use Rattle.record_call.specs.Ends.{is_complete, record_status};
 ghost use Rattle.record_call.specs.Lines.{usage_text, plan_text, document_text, cost_text};
 ghost use Rattle.record_call.specs.Plans.{IsRefused, HasFailedPlan};
-ghost use Rattle.record_call.specs.Recorded.{IsFileOf, IsCreated, IsCutFile, IsTooMuch, IsUnserved, HasNoDocument, HasTexts, HasUnreadDocument, lines_of};
+ghost use Rattle.record_call.specs.Recorded.{IsFileOf, IsCreated, IsCutFile, IsTooMuch, HasNoDocument, HasTexts, HasUnreadDocument, lines_of};
 ghost use Rattle.record_call.specs.Statuses.{is_status, is_recorded, is_without_file, has_plain_line, plain_text};
 
 use crate::end::are_complete;
@@ -25,10 +25,18 @@ use crate::say::say_lines;
 use dock_calls::{say_fault, usage_line};
 use rec_base::{Dock, Failed, Lines, Sink, Source, Word};
 use std::alloc::Global;
+use std::rt::Clock;
+use std::sync::Wait;
+use std::thread::Threads;
 
 // Records, says the lines, and answers whether all feeds came to their end, or to the number of
 // samples that was asked for.
-fn record<D: Dock>(alloc: Global, words: &[Word], dock: &mut D) -> Result<bool, RecordFault>
+fn record<D: Dock, R: Threads + Wait + Clock + Sync>(
+    rt: &R,
+    alloc: Global,
+    words: &[Word],
+    dock: &mut D,
+) -> Result<bool, RecordFault>
     ensures recorded { IfOk result (λ complete. (fed : List (Fed D.Source)) × (chunks : List ChunkValue)
         × IsFileOf D.Source.left D.Source.faults D.Source.mark (D.contents dock.old) words.now (D.target dock.old) (D.target dock.new) (D.held dock.old) (D.held dock.new) fed chunks
         × (complete ≡ list_all is_complete (map (λ x. x.end) fed))
@@ -37,7 +45,6 @@ fn record<D: Dock>(alloc: Global, words: &[Word], dock: &mut D) -> Result<bool, 
     ensures known { (why : ℕ) → IsErrOf result (RecordFault.Usage why) → IsTrue (is_usage why) }
     ensures used { IsErr (command_in top_record words.now) → (why : ℕ) × IsErrOf result (RecordFault.Usage why) }
     ensures refused { (line why : ℕ) → IsErrOf result (RecordFault.Plan line why) → IsRefused (D.contents dock.old) words.now line why }
-    ensures unserved { IsErrOf result RecordFault.Unserved → IsUnserved (D.contents dock.old) words.now }
     ensures none { (id : ℕ) → IsErrOf result (RecordFault.Document id) → HasNoDocument (D.contents dock.old) words.now id }
     ensures cost { (cost : ℕ) → IsErrOf result (RecordFault.Cost cost) → IsTooMuch (D.contents dock.old) words.now cost }
     ensures failed { IsErrOf result RecordFault.Open → Rose (D.open_faults dock.old) (D.open_faults dock.new)
@@ -61,7 +68,7 @@ fn record<D: Dock>(alloc: Global, words: &[Word], dock: &mut D) -> Result<bool, 
     ensures none_said { IsErr result → IsErrOf result RecordFault.Say
         ⊎ ((D.printed dock.new ≡ D.printed dock.old) × (D.print_faults dock.new ≡ D.print_faults dock.old)) }
 {
-    let written = write_file(alloc, words, dock)?;
+    let written = write_file(rt, alloc, words, dock)?;
     let lines = make_lines(alloc, &written)?;
     match say_lines(dock, &lines) {
         Ok(()) => Ok(are_complete(&written.reports)),
@@ -73,9 +80,10 @@ fn record<D: Dock>(alloc: Global, words: &[Word], dock: &mut D) -> Result<bool, 
 /// the program.
 ///
 /// The words are `record PLAN OUT`. The plan is a text of this project's own form; it names for each
-/// feed a header document and a captured feed, and the output is the XDF 1.0 file to write. The first
-/// refusal decides, in this order: the words; opening and reading the plan; the plan; whether it is
-/// served; for each feed in order its header document, opened, read, and its shape found; what the
+/// feed a header document, and a captured feed or an outlet, and the output is the XDF 1.0 file to
+/// write. An outlet is opened as a peer that is sent the request for the stream with the plan's uid, of
+/// the shape that the document tells; its reply must tell that uid, if it tells one. The first refusal
+/// decides, in this order: the words; opening and reading the plan; the plan; for each feed in order its header document, opened, read, and its shape found; what the
 /// rings cost; opening the feeds in order; the memory of the run; creating the output; the run; the
 /// lines. An input is the text at its place among the inputs of its name, in the order in which they
 /// are opened.
@@ -96,11 +104,15 @@ fn record<D: Dock>(alloc: Global, words: &[Word], dock: &mut D) -> Result<bool, 
 /// - 8: the file was written, and its lines can't be said.
 /// - 9: there is no memory, also for a fault's line. `fault 9`. Where no feed has texts the output is
 ///   then as it was, or whole.
-/// - 10: the plan isn't served yet: its mode is threads, or a feed comes from an outlet. `fault 10`.
 ///
-/// With 2, 3, 4, 6, 7 and 10 the output is as it was. A fault's line that can't be said changes no
+/// With 2, 3, 4, 6 and 7 the output is as it was. A fault's line that can't be said changes no
 /// status.
-pub fn record_main<D: Dock>(alloc: Global, words: &[Word], dock: &mut D) -> u8
+pub fn record_main<D: Dock, R: Threads + Wait + Clock + Sync>(
+    rt: &R,
+    alloc: Global,
+    words: &[Word],
+    dock: &mut D,
+) -> u8
     ensures statuses { IsTrue (is_status result) }
 
     // The file is exactly the feeds' samples without those that its ledger names, as many as the rings counted. How the feeds ended decides
@@ -149,15 +161,13 @@ pub fn record_main<D: Dock>(alloc: Global, words: &[Word], dock: &mut D) -> u8
         ⊎ ((fed : List (Fed D.Source)) × (chunks : List ChunkValue)
         × IsFileOf D.Source.left D.Source.faults D.Source.mark (D.contents dock.old) words.now (D.target dock.old) (D.target dock.new) (D.held dock.old) (D.held dock.new) fed chunks) }
 
-    ensures unserved { result ≡ 10 → IsUnserved (D.contents dock.old) words.now }
-
     ensures no_file { IsTrue (is_without_file result) → (D.target dock.new ≡ D.target dock.old) × (D.held dock.new ≡ D.held dock.old) }
 
     // the line of a fault that has no number, in full unless a line failed
     ensures fault_line { IsTrue (has_plain_line result) →
         SaysFault (D.printed dock.old) (D.printed dock.new) (D.print_faults dock.old) (D.print_faults dock.new) (plain_text result) }
 {
-    match record(alloc, words, dock) {
+    match record(rt, alloc, words, dock) {
         Ok(true) => 0,
         Ok(false) => 1,
         Err(RecordFault::Usage(why)) => {
@@ -206,10 +216,6 @@ pub fn record_main<D: Dock>(alloc: Global, words: &[Word], dock: &mut D) -> u8
         Err(RecordFault::Memory) => {
             say_fault(dock, "fault 9");
             9
-        }
-        Err(RecordFault::Unserved) => {
-            say_fault(dock, "fault 10");
-            10
         }
     }
 }

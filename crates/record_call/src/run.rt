@@ -1,20 +1,30 @@
 //! The run of a recording, into an output that is created for it.
 
-ghost use Rattle.std.specs.Prelude.{◌≡◌, ◌≤◌, ◌⊎◌, length, IfOk, IsErr, IsErrOf};
+ghost use Rattle.std.specs.Prelude.{◌≡◌, ◌≢◌, ◌≤◌, ◌⊎◌, ℕ, List, length, IfOk, IsErr, IsErrOf};
 ghost use Rattle.std.specs.List.{AllByRecursion};
 ghost use Rattle.rec_base.specs.Causes.{Rose};
 ghost use Rattle.recording_model.specs.Recording.{AreStreams};
-ghost use Rattle.record_run.specs.Recorders.{AreNumbers};
+ghost use Rattle.recording_model.specs.declared.stream.StreamDoc.{StreamDoc as StreamValue};
+ghost use Rattle.run_model.specs.Fitting.{AreNumbers};
+ghost use Rattle.run_model.specs.declared.feed.FeedSource.{FeedSource as FeedValue};
+ghost use Rattle.run_model.specs.Outcomes.{IsDone, IsStopped};
+ghost use Rattle.record_run.specs.Recorders.{IsIn, IsOpenFor};
 ghost use Rattle.record_call.specs.Recorded.{IsWritten, IsCut, IsCreated};
 
 use crate::fault::RecordFault;
+use plan_words::Mode;
 use rec_base::{Dock, Failed, Lines, Sink, Source, Word};
 use record_run::{FeedSource, Outcome, Recorder, ReportList, StreamDoc};
 use std::alloc::Global;
+use std::rt::Clock;
+use std::sync::Wait;
+use std::thread::Threads;
 
-/// The sizes of a plan: the most samples that wait in a ring, and the most that are taken at once.
+/// How a plan is recorded: in which mode, the most samples that wait in a ring, and the most that are
+/// taken at once.
 #[derive(Clone, Copy, Debug)]
-pub(crate) struct Sizes {
+pub(crate) struct Settings {
+    pub(crate) mode: Mode,
     pub(crate) ring: u64,
     pub(crate) batch: u64,
 }
@@ -28,25 +38,49 @@ pub(crate) struct Written {
     pub(crate) chunks: u64,
 }
 
-/// Takes the memory of the run, creates the output, and records the feeds by turns.
-pub(crate) fn record_turns<D: Dock>(
+// Runs a recorder in its mode.
+fn run<S: Source + Send + Drop, K: Sink, R: Threads + Wait + Clock + Sync>(
+    rt: &R,
+    mode: Mode,
+    recorder: Recorder<S>,
+    sink: &mut K,
+) -> Outcome<S>
+    requires mode { IsIn mode recorder }
+    ensures done { (ring batch : ℕ) (streams : List StreamValue) (feeds : List (FeedValue S)) → IsOpenFor mode ring batch streams feeds recorder
+        → IsDone S.left S.faults S.mark mode ring batch streams feeds (K.held sink.old) (K.held sink.new) result }
+    ensures stopped { (ring batch : ℕ) (streams : List StreamValue) (feeds : List (FeedValue S)) → IsOpenFor mode ring batch streams feeds recorder
+        → IsStopped streams (K.held sink.old) (K.held sink.new) result }
+    ensures memory { (ring batch : ℕ) (streams : List StreamValue) (feeds : List (FeedValue S)) → IsOpenFor mode ring batch streams feeds recorder
+        → AreNumbers streams → result ≢ Outcome.Memory }
+    ensures cause { result ≡ Outcome.WriteFault → Rose (K.write_faults sink.old) (K.write_faults sink.new) }
+    ensures rest { K.rest sink.new ≡ K.rest sink.old }
+{
+    match mode {
+        Mode::Turns => recorder.run_turns(sink),
+        Mode::Threads => recorder.run_threads(rt, sink),
+    }
+}
+
+/// Takes the memory of the run, creates the output, and records the feeds.
+pub(crate) fn record_feeds<D: Dock, R: Threads + Wait + Clock + Sync>(
+    rt: &R,
     alloc: Global,
     dock: &mut D,
     out: &Word,
-    sizes: Sizes,
+    settings: Settings,
     streams: Vec<StreamDoc>,
     feeds: Vec<FeedSource<D::Source>>,
 ) -> Result<Written, RecordFault>
-    requires ring_low { 1 ≤ sizes.ring }
-    requires ring_high { sizes.ring ≤ 1_048_576 }
-    requires batch_low { 1 ≤ sizes.batch }
-    requires batch_high { sizes.batch ≤ 65_536 }
+    requires ring_low { 1 ≤ settings.ring }
+    requires ring_high { settings.ring ≤ 1_048_576 }
+    requires batch_low { 1 ≤ settings.batch }
+    requires batch_high { settings.batch ≤ 65_536 }
     requires are { AreStreams streams.items }
     requires some { 1 ≤ length streams.items }
     requires few { length streams.items ≤ 64 }
     requires short { AllByRecursion (λ s. length s.doc ≤ 1_048_576) streams.items }
     requires feeds { length feeds.items ≡ length streams.items }
-    ensures written { IfOk result (λ w. IsWritten D.Source.left D.Source.faults D.Source.mark sizes.ring sizes.batch streams.items feeds.items out.now
+    ensures written { IfOk result (λ w. IsWritten D.Source.left D.Source.faults D.Source.mark settings.mode settings.ring settings.batch streams.items feeds.items out.now
         (D.target dock.old) (D.target dock.new) (D.held dock.old) (D.held dock.new) w.reports w.bytes w.chunks) }
     ensures not_created { IsErrOf result RecordFault.Open → Rose (D.open_faults dock.old) (D.open_faults dock.new)
         × (D.target dock.new ≡ D.target dock.old) × (D.held dock.new ≡ D.held dock.old) }
@@ -63,12 +97,13 @@ pub(crate) fn record_turns<D: Dock>(
     ensures printed { D.printed dock.new ≡ D.printed dock.old }
     ensures print_faults { D.print_faults dock.new ≡ D.print_faults dock.old }
 {
-    let recorder = Recorder::open(alloc, sizes.ring, sizes.batch, streams, feeds)?;
+    let Settings { mode, ring, batch } = settings;
+    let recorder = Recorder::open(alloc, mode, ring, batch, streams, feeds)?;
     match dock.create(out) {
         Ok(()) => {}
         Err(Failed) => return Err(RecordFault::Open),
     }
-    match recorder.run_turns(dock) {
+    match run(rt, mode, recorder, dock) {
         Outcome::Done {
             reports,
             bytes,

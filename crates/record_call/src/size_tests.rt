@@ -49,7 +49,7 @@ fn realistic_feeds_are_kept_whole(rt: HostRuntime) -> Result<(), Fail> {
         printed: "feed 1 received 5000 kept 5000 lost 0 end whole\nfeed 2 received 7 kept 7 lost 0 end whole\nrecorded bytes 686181 chunks 27\n",
         creates: true,
     };
-    assert!(rt; records(alloc, RECORD, &files, NONE, want)?);
+    assert!(rt; records(&rt, RECORD, &files, NONE, want)?);
     Ok(())
 }
 
@@ -65,7 +65,7 @@ fn wide_samples_are_divided_and_marked(rt: HostRuntime) -> Result<(), Fail> {
         ),
         file("a", &feed),
     ];
-    let (status, dock) = record_on(alloc, RECORD, &files, NONE)?;
+    let (status, dock) = record_on(&rt, RECORD, &files, NONE)?;
     let lines = b"feed 1 received 130 kept 130 lost 0 end whole\nrecorded bytes 1065668 chunks 8\n";
     assert!(rt; status == 0 && dock.printed() == lines.as_slice());
     // 127 samples of 8,193 bytes, a boundary, and 3 samples

@@ -1,7 +1,10 @@
 use crate::record_main;
 use rec_base::{Blob, MemDock, MemSource, Name, Piece, Word};
 use std::alloc::Global;
+use std::rt::Clock;
+use std::sync::Wait;
 use std::test::Fail;
+use std::thread::Threads;
 
 // The header document of one channel of `int16`.
 pub(crate) const INT16_DOCUMENT: &[u8] =
@@ -14,10 +17,18 @@ pub(crate) const FEED_FRONT: &[u8] =
 // Three samples: the numbers from 1 on.
 pub(crate) const THREE_SAMPLES: &[u8] = b"\x01\x01\0\x01\x02\0\x01\x03\0";
 
-// A file at a path: its bytes, and whether the read behind them fails.
+// Where an input of the dock is: a file at a path, or a peer at host `m` and port 16572 that is sent
+// this request.
+#[derive(Clone, Copy)]
+pub(crate) enum At<'a> {
+    Path(&'a str),
+    Peer(&'a [u8]),
+}
+
+// An input: its bytes, and whether the read behind them fails.
 #[derive(Clone, Copy)]
 pub(crate) struct TestFile<'a> {
-    pub(crate) path: &'a str,
+    pub(crate) at: At<'a>,
     pub(crate) bytes: &'a [u8],
     pub(crate) fails: bool,
 }
@@ -25,7 +36,16 @@ pub(crate) struct TestFile<'a> {
 // A file that can be read.
 pub(crate) fn file<'a>(path: &'a str, bytes: &'a [u8]) -> TestFile<'a> {
     TestFile {
-        path,
+        at: At::Path(path),
+        bytes,
+        fails: false,
+    }
+}
+
+// An outlet that can be read.
+pub(crate) fn peer<'a>(request: &'a [u8], bytes: &'a [u8]) -> TestFile<'a> {
+    TestFile {
+        at: At::Peer(request),
         bytes,
         fails: false,
     }
@@ -62,7 +82,14 @@ pub(crate) fn three_samples(alloc: Global) -> Result<Vec<u8>, Fail> {
 }
 
 fn source(alloc: Global, file: TestFile<'_>) -> Result<(Name, MemSource), Fail> {
-    let name = Name::File(Word::from_bytes(alloc, file.path.as_bytes())?);
+    let name = match file.at {
+        At::Path(path) => Name::File(Word::from_bytes(alloc, path.as_bytes())?),
+        At::Peer(request) => Name::Peer {
+            host: Word::from_bytes(alloc, "m".as_bytes())?,
+            port: 16572,
+            request: Blob::from_bytes(alloc, request)?,
+        },
+    };
     let mut pieces = Vec::new(alloc);
     pieces.push(Piece::Give(Blob::from_bytes(alloc, file.bytes)?))?;
     if file.fails {
@@ -73,11 +100,12 @@ fn source(alloc: Global, file: TestFile<'_>) -> Result<(Name, MemSource), Fail> 
 
 // The status of the call on a dock with these files, and the dock behind it.
 pub(crate) fn record_on(
-    alloc: Global,
+    rt: &(impl AllocGlobal + Threads + Wait + Clock + Sync),
     words: &[&str],
     files: &[TestFile<'_>],
     fails: Fails,
 ) -> Result<(u8, MemDock), Fail> {
+    let alloc: Global = rt.alloc();
     let mut sources = Vec::new(alloc);
     for file in files {
         sources.push(source(alloc, *file)?)?;
@@ -94,19 +122,19 @@ pub(crate) fn record_on(
     for word in words {
         command.push(Word::from_bytes(alloc, word.as_bytes())?)?;
     }
-    let status = record_main(alloc, &command, &mut dock);
+    let status = record_main(rt, alloc, &command, &mut dock);
     Ok((status, dock))
 }
 
 // Whether the call answers as it is wanted to.
 pub(crate) fn records(
-    alloc: Global,
+    rt: &(impl AllocGlobal + Threads + Wait + Clock + Sync),
     words: &[&str],
     files: &[TestFile<'_>],
     fails: Fails,
     want: Want<'_>,
 ) -> Result<bool, Fail> {
-    let (status, dock) = record_on(alloc, words, files, fails)?;
+    let (status, dock) = record_on(rt, words, files, fails)?;
     let created = dock.target() == b"out".as_slice();
     Ok(
         status == want.status
@@ -118,12 +146,12 @@ pub(crate) fn records(
 // Whether a plan with the header document of one int16 channel at `h` and a feed at `a` is recorded
 // as it is wanted.
 pub(crate) fn records_plan(
-    alloc: Global,
+    rt: &(impl AllocGlobal + Threads + Wait + Clock + Sync),
     plan: &[u8],
     feed: &[u8],
     fails: Fails,
     want: Want<'_>,
 ) -> Result<bool, Fail> {
     let files = [file("p", plan), file("h", INT16_DOCUMENT), file("a", feed)];
-    records(alloc, &["record", "p", "out"], &files, fails, want)
+    records(rt, &["record", "p", "out"], &files, fails, want)
 }

@@ -40,7 +40,7 @@ fn a_ring_of_one_keeps_the_last_sample_of_each_batch(rt: HostRuntime) -> Result<
             file("h", INT16_DOCUMENT),
             file("a", &feed),
         ];
-        let (answer, dock) = record_on(alloc, RECORD, &files, Fails { say, ..NONE })?;
+        let (answer, dock) = record_on(&rt, RECORD, &files, Fails { say, ..NONE })?;
         let is_so = answer == status
             && dock.target() == b"out".as_slice()
             && dock.printed() == printed.as_bytes()
@@ -61,7 +61,7 @@ fn a_failed_write_leaves_a_front_of_the_file(rt: HostRuntime) -> Result<(), Fail
             file("h", INT16_DOCUMENT),
             file("a", &feed),
         ];
-        let (answer, dock) = record_on(alloc, RECORD, &files, Fails { write, ..NONE })?;
+        let (answer, dock) = record_on(&rt, RECORD, &files, Fails { write, ..NONE })?;
         let is_so = answer == 5
             && dock.target() == b"out".as_slice()
             && dock.printed() == b"fault 5\n".as_slice()
@@ -121,7 +121,7 @@ fn a_feed_is_kept_up_to_its_end_whatever_that_is(rt: HostRuntime) -> Result<(), 
         };
         let feed = whole.get(..cut).unwrap_or(&[]);
         let plan = b"mode turns\nfeed 1 doc h file a\n";
-        assert!(rt; records_plan(alloc, plan, feed, NONE, want)?, "{cut}");
+        assert!(rt; records_plan(&rt, plan, feed, NONE, want)?, "{cut}");
     }
     Ok(())
 }
@@ -157,7 +157,7 @@ fn replies_and_faulty_samples_are_told(rt: HostRuntime) -> Result<(), Fail> {
             creates: true,
         };
         assert!(rt;
-            records_plan(alloc, plan.as_bytes(), feed, NONE, want)?,
+            records_plan(&rt, plan.as_bytes(), feed, NONE, want)?,
             "{lines}"
         );
     }
@@ -169,7 +169,7 @@ fn a_failed_read_of_one_feed_leaves_the_other(rt: HostRuntime) -> Result<(), Fai
     let alloc: Global = rt.alloc();
     let whole = three_samples(alloc)?;
     let cut = TestFile {
-        path: "a",
+        at: At::Path("a"),
         bytes: whole.get(..122).unwrap_or(&[]),
         fails: true,
     };
@@ -188,7 +188,7 @@ fn a_failed_read_of_one_feed_leaves_the_other(rt: HostRuntime) -> Result<(), Fai
         printed: "feed 1 received 1 kept 1 lost 0 end read-fault\nfeed 2 received 3 kept 3 lost 0 end whole\nrecorded bytes 744 chunks 9\n",
         creates: true,
     };
-    assert!(rt; records(alloc, RECORD, &files, NONE, want)?);
+    assert!(rt; records(&rt, RECORD, &files, NONE, want)?);
     Ok(())
 }
 
@@ -208,7 +208,7 @@ fn inputs_of_one_name_are_taken_in_their_order(rt: HostRuntime) -> Result<(), Fa
         file("a", &whole),
         file("a", FEED_FRONT),
     ];
-    let (status, dock) = record_on(alloc, RECORD, &files, NONE)?;
+    let (status, dock) = record_on(&rt, RECORD, &files, NONE)?;
     let lines =
         b"feed 1 received 3 kept 3 lost 0 end whole\nfeed 2 received 0 kept 0 lost 0 end whole\nfeed 3 received 1 kept 1 lost 0 end whole\n";
     assert!(rt; status == 0 && dock.printed().starts_with(lines.as_slice()));

@@ -10,11 +10,15 @@ ghost use Rattle.std.specs.declared.io.ErrorKind.TheVariants.{InvalidData};
 
 mod identity;
 mod output;
+mod peer;
+#[cfg(test)]
+mod peer_tests;
 mod real_dock;
 mod real_source;
 #[cfg(test)]
 mod real_tests;
 mod retry;
+mod streams;
 mod waiting;
 
 use file_call::file_main;
@@ -25,8 +29,11 @@ use std::alloc::Global;
 use std::env::{self, Env};
 use std::fs::File;
 use std::io;
+use std::net::{Net, TcpStream};
 use std::process::ExitCode;
-use std::rt::Files;
+use std::rt::{Clock, Files};
+use std::sync::Wait;
+use std::thread::Threads;
 
 // The words of the command line, without the program's name.
 fn command_words(rt: &(impl Env + AllocGlobal)) -> io::Result<Vec<Word>> {
@@ -76,7 +83,7 @@ fn last_status(status: u8, forced: bool, told: bool) -> u8
 }
 
 // Forces the output to the disk, puts out the lines that wait, and answers the status.
-fn settle<R: Files<File = File> + Drop, P: Print + Drop>(
+fn settle<R: Files<File = File> + Net<Stream = TcpStream> + Drop, P: Print + Drop>(
     status: u8,
     dock: &mut RealDock<R, P>,
 ) -> u8
@@ -92,15 +99,15 @@ fn settle<R: Files<File = File> + Drop, P: Print + Drop>(
 }
 
 // Does what the words ask for, and answers the status once all is out.
-fn answer<R: Files<File = File> + Drop, P: Print + Drop>(
-    alloc: Global,
-    words: &[Word],
-    dock: &mut RealDock<R, P>,
-) -> u8
+fn answer<
+    T: Threads + Wait + Clock + Sync,
+    R: Files<File = File> + Net<Stream = TcpStream> + Drop,
+    P: Print + Drop,
+>(rt: &T, alloc: Global, words: &[Word], dock: &mut RealDock<R, P>) -> u8
     ensures { (result ≡ 0) ⊎ (result ≡ 1) → IsForced dock.new.output }
 {
     let status = if is_record(words) {
-        record_main(alloc, words, dock)
+        record_main(rt, alloc, words, dock)
     } else {
         file_main(alloc, words, dock)
     };
@@ -112,8 +119,11 @@ fn main(rt: HostRuntime) -> ExitCode {
         Ok(words) => {
             let alloc: Global = rt.alloc();
             let out = rt.stdout();
-            let mut dock = RealDock::new(alloc, rt, out);
-            ExitCode::from(answer(alloc, &words, &mut dock))
+            let Ok(system) = rt.clone() else {
+                return ExitCode::from(9);
+            };
+            let mut dock = RealDock::new(alloc, system, out);
+            ExitCode::from(answer(&rt, alloc, &words, &mut dock))
         }
         Err(fault) => ExitCode::from(unread_status(&fault)),
     }

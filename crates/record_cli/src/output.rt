@@ -7,12 +7,9 @@ ghost use Rattle.record_cli.specs.Outputs.{IsForced};
 
 use crate::identity::{Identity, identity_of, is_free};
 use crate::retry::write_again;
+use crate::streams::file_beside_streams;
 use std::fs::{self, File, OpenOptions};
-use std::os::fd::AsRawFd;
 use std::rt::Files;
-
-// The number of standard error.
-const LAST_STREAM: i32 = 2;
 
 /// A file that is written.
 #[derive(Drop)]
@@ -86,7 +83,7 @@ fn folder_of(name: &str) -> &str {
 fn output_of(file: File, is_regular: bool, folder: Option<File>) -> Option<Output>
     ensures { IfSome result (λ output. pos 2 <ℤ file_raw_fd output.file) }
 {
-    match beside_streams(file) {
+    match file_beside_streams(file) {
         Some(file) => Some(Output {
             file,
             is_regular,
@@ -94,20 +91,6 @@ fn output_of(file: File, is_regular: bool, folder: Option<File>) -> Option<Outpu
             is_forced: false,
         }),
         None => None,
-    }
-}
-
-// The same file under a number past those of the standard streams. Where standard output is
-// closed, the system gives its number to the next file, and the lines would go into that file.
-fn beside_streams(file: File) -> Option<File>
-    ensures { IfSome result (λ file. pos 2 <ℤ file_raw_fd file) }
-{
-    if file.as_raw_fd() > LAST_STREAM {
-        return Some(file);
-    }
-    match file.try_clone() {
-        Ok(copy) if copy.as_raw_fd() > LAST_STREAM => Some(copy),
-        _ => None,
     }
 }
 

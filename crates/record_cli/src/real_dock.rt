@@ -1,24 +1,29 @@
-//! Files and standard output.
+//! Files, peers and standard output.
 
 ghost use Rattle.std.specs.Prelude.{◌≡◌, ◌≤◌, ◌++◌, ◌∷◌, [], OnSome, OnOk};
 ghost use Rattle.rec_base.specs.Causes.{HasCause, Rose};
-ghost use Rattle.record_cli.specs.Outputs.{IsForced};
+ghost use Rattle.record_cli.specs.Outputs.{IsForced, Remembers};
 ghost use Rattle.record_cli.specs.declared.identity.Identity.{Identity};
 
 use crate::identity::{Identity, identity_of};
 use crate::output::{Output, create_output, force_out, write_some};
+use crate::peer::open_peer;
 use crate::real_source::RealSource;
 use crate::waiting::{put_out, say_in};
 use rec_base::{Dock, Failed, Lines, Name, Sink, Word};
 use std::alloc::Global;
 use std::fs::{self, File};
+use std::net::{Net, TcpStream};
 use std::rt::Files;
 
-/// Files, and standard output for the lines, which go out together, at the latest at `flush`. It tells
-/// none of their bytes, and counts what failed.
+/// Files, peers by TCP, and standard output for the lines, which go out together, at the latest at
+/// `flush`. It tells none of their bytes, and counts what failed.
 #[derive(Drop)]
-pub(crate) struct RealDock<R: Files<File = File> + Drop, P: Print + Drop> {
-    files: R,
+pub(crate) struct RealDock<
+    R: Files<File = File> + Net<Stream = TcpStream> + Drop,
+    P: Print + Drop,
+> {
+    system: R,
     out: P,
     // the files that were opened to be read
     inputs: Vec<Identity>,
@@ -30,11 +35,11 @@ pub(crate) struct RealDock<R: Files<File = File> + Drop, P: Print + Drop> {
     print_faults: u64,
 }
 
-impl<R: Files<File = File> + Drop, P: Print + Drop> RealDock<R, P> {
+impl<R: Files<File = File> + Net<Stream = TcpStream> + Drop, P: Print + Drop> RealDock<R, P> {
     /// A dock that has opened and created nothing.
-    pub(crate) fn new(alloc: Global, files: R, out: P) -> RealDock<R, P> {
+    pub(crate) fn new(alloc: Global, system: R, out: P) -> RealDock<R, P> {
         RealDock {
-            files,
+            system,
             out,
             inputs: Vec::new(alloc),
             output: None,
@@ -72,7 +77,8 @@ impl<R: Files<File = File> + Drop, P: Print + Drop> RealDock<R, P> {
     }
 }
 
-impl<R: Files<File = File> + Drop, P: Print + Drop> Sink for RealDock<R, P> {
+impl<R: Files<File = File> + Net<Stream = TcpStream> + Drop, P: Print + Drop> Sink
+    for RealDock<R, P> {
     ghost use Rattle.std.specs.Prelude.{None};
     ghost use Rattle.rec_base.specs.Docked.{BesideSink};
 
@@ -93,7 +99,8 @@ impl<R: Files<File = File> + Drop, P: Print + Drop> Sink for RealDock<R, P> {
     }
 }
 
-impl<R: Files<File = File> + Drop, P: Print + Drop> Lines for RealDock<R, P> {
+impl<R: Files<File = File> + Net<Stream = TcpStream> + Drop, P: Print + Drop> Lines
+    for RealDock<R, P> {
     ghost use Rattle.std.specs.Prelude.{None};
     ghost use Rattle.rec_base.specs.Docked.{BesideLines};
 
@@ -116,7 +123,8 @@ impl<R: Files<File = File> + Drop, P: Print + Drop> Lines for RealDock<R, P> {
     }
 }
 
-impl<R: Files<File = File> + Drop, P: Print + Drop> Dock for RealDock<R, P> {
+impl<R: Files<File = File> + Net<Stream = TcpStream> + Drop, P: Print + Drop> Dock
+    for RealDock<R, P> {
     ghost use Rattle.std.specs.Prelude.{None, refl};
     ghost use Rattle.std.proofs.Common.{ap};
     ghost use Rattle.rec_base.specs.Docked.{BesideLines, BesideSink};
@@ -129,11 +137,11 @@ impl<R: Files<File = File> + Drop, P: Print + Drop> Dock for RealDock<R, P> {
 
     ghost open_faults = { λ d. d.open_faults };
 
-    /// Answers `Failed` where there is no such file to read or no memory to remember it by, and for each
-    /// peer, which this dock doesn't know yet.
+    /// Answers `Failed` where there is no such file to read or no memory to remember it by; and where the
+    /// peer can't be found or reached, or doesn't take the whole request.
     fn open(&mut self, name: &Name) -> Result<RealSource, Failed> {
-        match open_input(&self.files, name, &mut self.inputs) {
-            Some(file) => Ok(RealSource::new(file)),
+        match open_source(&self.system, name, &mut self.inputs) {
+            Some(source) => Ok(source),
             None => Err(fail(&mut self.open_faults)),
         }
     }
@@ -142,7 +150,7 @@ impl<R: Files<File = File> + Drop, P: Print + Drop> Dock for RealDock<R, P> {
     /// the system does neither, where the file that is there is one that this dock has opened, and where
     /// it is a regular file that has bytes; it stays as it is then.
     fn create(&mut self, name: &Word) -> Result<(), Failed> {
-        let Some(output) = create_output(&self.files, name.text(), &self.inputs) else {
+        let Some(output) = create_output(&self.system, name.text(), &self.inputs) else {
             return Err(fail(&mut self.open_faults));
         };
         self.output = Some(output);
@@ -179,18 +187,39 @@ fn fail(faults: &mut u64) -> Failed
     Failed
 }
 
-// The file of a name, which is remembered as an input.
+// What has this name. A file is remembered as an input.
+fn open_source<R: Files<File = File> + Net<Stream = TcpStream>>(
+    system: &R,
+    name: &Name,
+    inputs: &mut Vec<Identity>,
+) -> Option<RealSource>
+    ensures { OnSome result (Remembers name.now inputs.old.items inputs.new.items) }
+{
+    match name {
+        Name::File(word) => match open_input(system, word.text(), inputs) {
+            Some(file) => Some(RealSource::of_file(file)),
+            None => None,
+        },
+        Name::Peer {
+            host,
+            port,
+            request,
+        } => match open_peer(system, host.text(), *port, request.bytes()) {
+            Some(peer) => Some(RealSource::of_peer(peer)),
+            None => None,
+        },
+    }
+}
+
+// The file of a path, which is remembered as an input.
 fn open_input<R: Files<File = File>>(
     files: &R,
-    name: &Name,
+    path: &str,
     inputs: &mut Vec<Identity>,
 ) -> Option<File>
     ensures { OnSome result ((input : Identity) × (inputs.new.items ≡ inputs.old.items ++ (input ∷ []))) }
 {
-    let Name::File(word) = name else {
-        return None;
-    };
-    let Ok(file) = fs::open(files, word.text()) else {
+    let Ok(file) = fs::open(files, path) else {
         return None;
     };
     let Ok(found) = file.metadata() else {

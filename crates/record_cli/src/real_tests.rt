@@ -2,7 +2,7 @@ use crate::real_dock::RealDock;
 use crate::retry::{read_again, write_again};
 use crate::waiting::{put_out, say_in};
 use crate::{answer, settle};
-use rec_base::{Blob, Dock, Failed, Name, Sink, Source, Word};
+use rec_base::{Dock, Failed, Name, Sink, Source, Word};
 use std::alloc::Global;
 use std::cell::Cell;
 use std::fmt::Display;
@@ -10,7 +10,10 @@ use std::fs::{self, File, OpenOptions};
 use std::io::{self, Read, Write};
 use std::os::fd::AsRawFd;
 use std::os::unix::fs::symlink;
+use std::rt::Clock;
+use std::sync::Wait;
 use std::test::Fail;
+use std::thread::Threads;
 
 const DOC: &str =
     "<info><channel_count>1</channel_count><channel_format>int16</channel_format></info>";
@@ -63,14 +66,21 @@ fn file(alloc: Global, path: &str) -> Result<Name, Fail> {
 }
 
 // The status of a command, with the lines put out there.
-fn run(rt: &HostRuntime, command: &str, first: &str, last: &str, lines: &str) -> Result<u8, Fail> {
+fn run(
+    threads: &(impl Threads + Wait + Clock + Sync),
+    rt: &HostRuntime,
+    command: &str,
+    first: &str,
+    last: &str,
+    lines: &str,
+) -> Result<u8, Fail> {
     let alloc: Global = rt.alloc();
     let mut words = Vec::new(alloc);
     words.push(word(alloc, command)?)?;
     words.push(word(alloc, first)?)?;
     words.push(word(alloc, last)?)?;
     let mut dock = RealDock::new(alloc, rt.clone()?, lines_to(rt, lines)?);
-    Ok(answer(alloc, &words, &mut dock))
+    Ok(answer(threads, alloc, &words, &mut dock))
 }
 
 // Removes what is there of these.
@@ -82,6 +92,7 @@ fn clear(rt: &HostRuntime, names: &[&str]) {
 
 // A command that would write over a file is refused, and the file stays.
 fn refuses(
+    threads: &(impl Threads + Wait + Clock + Sync),
     rt: &HostRuntime,
     command: &str,
     first: &str,
@@ -89,7 +100,7 @@ fn refuses(
     kept: &str,
 ) -> Result<(), Fail> {
     let before = fs::read(rt, kept)?;
-    let status = run(rt, command, first, output, "/dev/null")?;
+    let status = run(threads, rt, command, first, output, "/dev/null")?;
     let after = fs::read(rt, kept)?;
     if status == 4 && after.as_slice() == before.as_slice() {
         return Ok(());
@@ -98,14 +109,20 @@ fn refuses(
 }
 
 // An input isn't taken for the output under another name, nor through a link of either kind.
-fn keeps_input(rt: &HostRuntime, command: &str, first: &str, input: &str) -> Result<(), Fail> {
+fn keeps_input(
+    threads: &(impl Threads + Wait + Clock + Sync),
+    rt: &HostRuntime,
+    command: &str,
+    first: &str,
+    input: &str,
+) -> Result<(), Fail> {
     let same = format!(in rt.alloc(); "./{input}")?;
-    refuses(rt, command, first, same.as_str(), input)?;
+    refuses(threads, rt, command, first, same.as_str(), input)?;
     symlink(rt, input, "symbolic")?;
-    refuses(rt, command, first, "symbolic", input)?;
+    refuses(threads, rt, command, first, "symbolic", input)?;
     fs::remove_file(rt, "symbolic")?;
     fs::hard_link(rt, input, "hard")?;
-    refuses(rt, command, first, "hard", input)?;
+    refuses(threads, rt, command, first, "hard", input)?;
     fs::remove_file(rt, "hard")?;
     Ok(())
 }
@@ -127,16 +144,22 @@ fn no_input_is_taken_for_the_output(rt: HostRuntime) -> Result<(), Fail> {
     fs::write(&rt, "nothing", "")?;
     fs::write(&rt, "in.xdf", "XDF:")?;
     for input in ["plan", "doc", "feed", "nothing"] {
-        keeps_input(&rt, "record", "plan", input)?;
+        keeps_input(&rt, &rt, "record", "plan", input)?;
     }
-    keeps_input(&rt, "repair", "in.xdf", "in.xdf")?;
+    keeps_input(&rt, &rt, "repair", "in.xdf", "in.xdf")?;
     clear(&rt, &names);
     Ok(())
 }
 
 // A recording into this output, with the lines put out there, has this status.
-fn records(rt: &HostRuntime, output: &str, lines: &str, status: u8) -> Result<(), Fail> {
-    let answered = run(rt, "record", "own_plan", output, lines)?;
+fn records(
+    threads: &(impl Threads + Wait + Clock + Sync),
+    rt: &HostRuntime,
+    output: &str,
+    lines: &str,
+    status: u8,
+) -> Result<(), Fail> {
+    let answered = run(threads, rt, "record", "own_plan", output, lines)?;
     if answered == status {
         return Ok(());
     }
@@ -165,17 +188,17 @@ fn outputs_are_made_or_taken_as_they_are(rt: HostRuntime) -> Result<(), Fail> {
     fs::write(&rt, "own_feed", FEED)?;
     fs::write(&rt, "empty", "")?;
     symlink(&rt, "missing", "leads_nowhere")?;
-    records(&rt, "new", "lines", 0)?;
-    records(&rt, "empty", "/dev/null", 0)?;
-    records(&rt, "untold", "/dev/full", 8)?;
-    records(&rt, "/dev/null", "/dev/null", 0)?;
+    records(&rt, &rt, "new", "lines", 0)?;
+    records(&rt, &rt, "empty", "/dev/null", 0)?;
+    records(&rt, &rt, "untold", "/dev/full", 8)?;
+    records(&rt, &rt, "/dev/null", "/dev/null", 0)?;
     for output in ["new", "leads_nowhere", ".", "no/such/folder"] {
-        records(&rt, output, "/dev/null", 4)?;
+        records(&rt, &rt, output, "/dev/null", 4)?;
     }
     // The one fails writes. The other is a regular file that takes them, and no disk has it.
     for output in ["/dev/full", "/proc/self/comm"] {
-        records(&rt, output, "/dev/null", 5)?;
-        records(&rt, output, "/dev/full", 5)?;
+        records(&rt, &rt, output, "/dev/null", 5)?;
+        records(&rt, &rt, output, "/dev/full", 5)?;
     }
     let recorded = fs::read(&rt, "new")?;
     assert_eq!(rt; recorded.len(), 546);
@@ -288,12 +311,6 @@ fn files_are_read(rt: HostRuntime) -> Result<(), Fail> {
         assert_eq!(rt; buf, if filled { [0; 4] } else { [7; 4] });
     }
     assert!(rt; dock.open(&file(alloc, "/no/such/file")?).is_err());
-    let peer = Name::Peer {
-        host: word(alloc, "amp")?,
-        port: 9,
-        request: Blob::from_bytes(alloc, b"GET")?,
-    };
-    assert!(rt; dock.open(&peer).is_err());
     assert_eq!(rt; dock.write(b"ab"), Err(Failed));
     Ok(())
 }

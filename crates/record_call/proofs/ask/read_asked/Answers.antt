@@ -21,7 +21,6 @@ returns-in_err-streams-clause-none g c = λ id e.
       out = c.args.out.now;
       plan = plan;
       planned = planned before between c.args.words.now c.args.path.now c.args.out.now plan c.requires.command c.in_ok-plan.ensures.plan;
-      served = sym c.is_served.ensures ∙ c.if-not-is_served.false;
       none = k.is before (name.File c.args.path.now ∷ []) (after_plan before between c.args.words.now c.args.path.now c.args.out.now plan c.requires.command c.in_ok-plan.ensures.plan);
     }
 
@@ -37,7 +36,6 @@ returns-in_err-streams-clause-failed g c = λ e.
         out = c.args.out.now;
         plan = plan;
         planned = planned before between c.args.words.now c.args.path.now c.args.out.now plan c.requires.command c.in_ok-plan.ensures.plan;
-        served = sym c.is_served.ensures ∙ c.if-not-is_served.false;
         failed = k.is before (name.File c.args.path.now ∷ []) (after_plan before between c.args.words.now c.args.path.now c.args.out.now plan c.requires.command c.in_ok-plan.ensures.plan);
       }))
     ]
@@ -65,7 +63,6 @@ returns-in_err-check_cost-clause-cost g c = λ cost e.
       has = record {
         path = c.args.path.now;
         planned = planned before between c.args.words.now c.args.path.now c.args.out.now plan c.requires.command c.in_ok-plan.ensures.plan;
-        served = sym c.is_served.ensures ∙ c.if-not-is_served.false;
         streams_of = c.in_ok-streams.ensures.read.are before (name.File c.args.path.now ∷ []) after;
       };
       is = k.0 ∙ ap (λ (ss : List StreamDoc). cost_of plan.ring (map (λ s. s.shape) ss)) c.deref.ensures.value;
@@ -81,7 +78,6 @@ returns-clause-asked g c =
     let has : HasStreams before c.args.words.now c.args.out.now plan c.in_ok-streams.streams.items = record {
       path = c.args.path.now;
       planned = planned before between c.args.words.now c.args.path.now c.args.out.now plan c.requires.command c.in_ok-plan.ensures.plan;
-      served = sym c.is_served.ensures ∙ c.if-not-is_served.false;
       streams_of = c.in_ok-streams.ensures.read.are before (name.File c.args.path.now ∷ []) after;
     } in
     (record { has = has; cost = rw (sym c.deref.ensures.value) c.in_ok-check_cost.ensures.within }, refl)

@@ -1,10 +1,11 @@
 use Rattle.std.proofs.Common.{◌≡◌, ◌≤◌, take}
+use Rattle.std.specs.List.{zip}
 use Rattle.record_call.specs.Feeds.{AreSourcesOpened}
 use Rattle.record_call.proofs.feed.open_feeds.Given as goal
 
 abbrev pub invariant-loop-i : goal.invariant-loop-i
 invariant-loop-i g l = record {
-  opened : AreSourcesOpened g.D.Source.Source.left (g.D.Dock.contents l.initial.dock) (g.D.Dock.contents l.dock) (take l.i l.feeds) l.sources.items;
+  opened : AreSourcesOpened g.D.Source.Source.left (g.D.Dock.contents l.initial.dock) (g.D.Dock.contents l.dock) (take l.i (zip l.feeds l.streams)) l.sources.items;
   later : g.D.Dock.open_faults l.initial.dock ≤ g.D.Dock.open_faults l.dock;
   target : g.D.Dock.target l.dock ≡ g.D.Dock.target l.initial.dock;
   held : g.D.Sink.held l.dock ≡ g.D.Sink.held l.initial.dock;

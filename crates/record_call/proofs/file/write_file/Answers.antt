@@ -4,29 +4,29 @@ use Rattle.rec_base.specs.Known.{Becomes}
 use Rattle.record_call.proofs.Records.{ready_are, ready_short, ready_some, ready_few, ready_feeds, file_written, cut_from}
 use Rattle.record_call.proofs.file.write_file.Goals as goal
 
-pub record_turns-requires-clause-are : goal.record_turns-requires-clause-are
-record_turns-requires-clause-are g c = λ κs within. ready_are _ _ _ _ _ _ _ _ c.in_ok-out.ensures.ready
+pub record_feeds-requires-clause-are : goal.record_feeds-requires-clause-are
+record_feeds-requires-clause-are g c = λ κs within. ready_are _ _ _ _ _ _ _ _ _ c.in_ok-out.ensures.ready
 
-pub record_turns-requires-clause-some : goal.record_turns-requires-clause-some
-record_turns-requires-clause-some g c = λ κs within. ready_some _ _ _ _ _ _ _ _ c.in_ok-out.ensures.ready
+pub record_feeds-requires-clause-some : goal.record_feeds-requires-clause-some
+record_feeds-requires-clause-some g c = λ κs within. ready_some _ _ _ _ _ _ _ _ _ c.in_ok-out.ensures.ready
 
-pub record_turns-requires-clause-few : goal.record_turns-requires-clause-few
-record_turns-requires-clause-few g c = λ κs within. ready_few _ _ _ _ _ _ _ _ c.in_ok-out.ensures.ready
+pub record_feeds-requires-clause-few : goal.record_feeds-requires-clause-few
+record_feeds-requires-clause-few g c = λ κs within. ready_few _ _ _ _ _ _ _ _ _ c.in_ok-out.ensures.ready
 
-pub record_turns-requires-clause-short : goal.record_turns-requires-clause-short
-record_turns-requires-clause-short g c = λ κs within. ready_short _ _ _ _ _ _ _ _ c.in_ok-out.ensures.ready
+pub record_feeds-requires-clause-short : goal.record_feeds-requires-clause-short
+record_feeds-requires-clause-short g c = λ κs within. ready_short _ _ _ _ _ _ _ _ _ c.in_ok-out.ensures.ready
 
-pub record_turns-requires-clause-feeds : goal.record_turns-requires-clause-feeds
-record_turns-requires-clause-feeds g c = λ κs within. ready_feeds _ _ _ _ _ _ _ _ c.in_ok-out.ensures.ready
+pub record_feeds-requires-clause-feeds : goal.record_feeds-requires-clause-feeds
+record_feeds-requires-clause-feeds g c = λ κs within. ready_feeds _ _ _ _ _ _ _ _ _ c.in_ok-out.ensures.ready
 
 pub returns-clause-written : goal.returns-clause-written
 returns-clause-written g c =
-    IfOk-weaker c.record_turns.result _ _ (λ w is.
-    file_written g.D.Source.Source.left g.D.Source.Source.faults g.D.Source.Source.mark (g.D.Dock.contents c.args.dock.now) c.args.words.now _ _ _ _ _ _ _ _ _ _ _ _ _ _ c.in_ok-out.ensures.target c.in_ok-out.ensures.held c.in_ok-out.ensures.ready is) c.record_turns.ensures.written
+    IfOk-weaker c.record_feeds.result _ _ (λ w is.
+    file_written g.D.Source.Source.left g.D.Source.Source.faults g.D.Source.Source.mark (g.D.Dock.contents c.args.dock.now) c.args.words.now _ _ _ _ _ _ _ _ _ _ _ _ _ _ _ c.in_ok-out.ensures.target c.in_ok-out.ensures.held c.in_ok-out.ensures.ready is) c.record_feeds.ensures.written
 
 pub returns-clause-not_written : goal.returns-clause-not_written
 returns-clause-not_written g c = λ e.
-    let w = c.record_turns.ensures.not_written e in
+    let w = c.record_feeds.ensures.not_written e in
     let T : Option (List ℕ) → Type 0 = λ o. Becomes o (g.D.Dock.target w.0) c.in_ok-out.field-0.out.now in
     let H : Option (List ℕ) → Type 0 = λ o. Becomes o (g.D.Sink.held w.0) [] in (
       record {
@@ -44,9 +44,9 @@ returns-clause-not_written g c = λ e.
 pub returns-clause-numbers : goal.returns-clause-numbers
 returns-clause-numbers g c = λ e.
     let o = c.in_ok-out in
-    let T : Option (List ℕ) → Type 0 = λ x. g.D.Dock.target c.record_turns.new.dock ≡ x in
-    let H : Option (List ℕ) → Type 0 = λ x. g.D.Sink.held c.record_turns.new.dock ≡ x in
-    elim (c.record_turns.ensures.numbers e) [
+    let T : Option (List ℕ) → Type 0 = λ x. g.D.Dock.target c.record_feeds.new.dock ≡ x in
+    let H : Option (List ℕ) → Type 0 = λ x. g.D.Sink.held c.record_feeds.new.dock ≡ x in
+    elim (c.record_feeds.ensures.numbers e) [
       | inl k ↦ inl (subst T o.ensures.target k.0, subst H o.ensures.held k.1)
       | inr k ↦ inr (record { out = o.field-0.out.now; plan = o.ensures.ready.plan; streams = o.field-0.streams.items; asked = o.ensures.ready.asked; texts = k })
     ]
@@ -54,9 +54,9 @@ returns-clause-numbers g c = λ e.
 pub returns-clause-memory : goal.returns-clause-memory
 returns-clause-memory g c = λ e.
     let o = c.in_ok-out in
-    let T : Option (List ℕ) → Type 0 = λ x. g.D.Dock.target c.record_turns.new.dock ≡ x in
-    let H : Option (List ℕ) → Type 0 = λ x. g.D.Sink.held c.record_turns.new.dock ≡ x in
-    elim (c.record_turns.ensures.memory e) [
+    let T : Option (List ℕ) → Type 0 = λ x. g.D.Dock.target c.record_feeds.new.dock ≡ x in
+    let H : Option (List ℕ) → Type 0 = λ x. g.D.Sink.held c.record_feeds.new.dock ≡ x in
+    elim (c.record_feeds.ensures.memory e) [
       | inl k ↦ inl (subst T o.ensures.target k.0, subst H o.ensures.held k.1)
       | inr k ↦ inr (record {
         out = o.field-0.out.now;
