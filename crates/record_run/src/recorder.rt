@@ -140,8 +140,9 @@ impl<S: Source + Send + Drop> Recorder<S> {
         self.run_threads_home(rt, sink).0
     }
 
-    /// As [`run_threads`](Recorder::run_threads), and says how many blocks of the feeds of numbers are
-    /// home at the end: all of them, `ring` and two for each feed; and 0 where the run isn't done.
+    /// As [`run_threads`](Recorder::run_threads), and counts the blocks of the feeds of numbers that are
+    /// home at the end, and 0 where the run isn't done. `ring` and two are made for each such feed; that
+    /// all of them come home is shown by tests, and said by no clause.
     pub fn run_threads_home<K: Sink, R: Threads + Wait + Clock + Sync>(
         self,
         rt: &R,
@@ -154,6 +155,8 @@ impl<S: Source + Send + Drop> Recorder<S> {
             → IsStopped streams (K.held sink.old) (K.held sink.new) result.0 }
         ensures memory { (ring batch : ℕ) (streams : List StreamValue) (feeds : List (FeedValue S)) → IsOpenFor ByThreads ring batch streams feeds self
             → AreNumbers streams → result.0 ≢ Outcome.Memory }
+        ensures home_at_fault { result.0 ≡ Outcome.WriteFault → result.1 ≡ 0 }
+        ensures home_at_memory { result.0 ≡ Outcome.Memory → result.1 ≡ 0 }
         ensures cause { result.0 ≡ Outcome.WriteFault → Rose (K.write_faults sink.old) (K.write_faults sink.new) }
         ensures later { K.write_faults sink.old ≤ K.write_faults sink.new }
         ensures rest { K.rest sink.new ≡ K.rest sink.old }

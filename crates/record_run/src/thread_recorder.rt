@@ -77,6 +77,8 @@ impl<S: Source + Send + Drop> ThreadRecorder<S> {
             → IsStopped streams (K.held sink.old) (K.held sink.new) result.0 }
         ensures memory { (ring : ℕ) (streams : List StreamValue) (feeds : List (FeedValue S)) → AreThreadsFor ring self.batch streams feeds self.desk self.feeds
             → AreNumbers streams → result.0 ≢ Outcome.Memory }
+        ensures home_at_fault { result.0 ≡ Outcome.WriteFault → result.1 ≡ 0 }
+        ensures home_at_memory { result.0 ≡ Outcome.Memory → result.1 ≡ 0 }
         ensures cause { result.0 ≡ Outcome.WriteFault → Rose (K.write_faults sink.old) (K.write_faults sink.new) }
         ensures later { K.write_faults sink.old ≤ K.write_faults sink.new }
         ensures rest { K.rest sink.new ≡ K.rest sink.old }

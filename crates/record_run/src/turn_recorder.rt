@@ -1,6 +1,6 @@
 //! The feeds of a recording by turns.
 
-ghost use Rattle.std.specs.Prelude.{◌≡◌, ◌≢◌, ◌≤◌, ◌<◌, ◌++◌, ◌∷◌, [], ℕ, List, length, map, slice_get, vec_capacity, Some, IfOk};
+ghost use Rattle.std.specs.Prelude.{◌≡◌, ◌≢◌, ◌≤◌, [], ℕ, List, length, map, slice_get, vec_capacity, Some, IfOk};
 ghost use Rattle.std.specs.List.{AllByRecursion};
 ghost use Rattle.rec_base.specs.Causes.{Rose};
 ghost use Rattle.plan_model.specs.declared.plan.Mode.TheVariants.{Turns};
@@ -75,18 +75,6 @@ fn new_inlets<S: Source + Drop>(
     Ok(inlets)
 }
 
-// Appends a source where there is room for it.
-fn push_source<S>(sources: &mut Vec<S>, source: S)
-    requires { length sources.old.items < vec_capacity sources.old }
-    ensures items { sources.new.items ≡ sources.old.items ++ source ∷ [] }
-    ensures room { vec_capacity sources.old ≤ vec_capacity sources.new }
-{
-    match sources.push(source) {
-        Ok(()) => {}
-        Err(_) => unreachable!(),
-    }
-}
-
 // The sources of the inlets, into room that was made before.
 fn sources_of<S: Source + Drop>(inlets: Vec<Inlet<S>>, sources: Vec<S>) -> Vec<S>
     requires empty { sources.items ≡ [] }
@@ -98,7 +86,7 @@ fn sources_of<S: Source + Drop>(inlets: Vec<Inlet<S>>, sources: Vec<S>) -> Vec<S
     let count = inlets.len();
     for _ in 0..count {
         // There are few inlets, so moving those behind it costs nothing that counts.
-        push_source(&mut sources, inlets.remove(0).into_source());
+        sources.push_reserved(inlets.remove(0).into_source());
     }
     sources
 }

@@ -1,6 +1,6 @@
 //! The turns of a run, and its end.
 
-ghost use Rattle.std.specs.Prelude.{◌≡◌, ◌≤◌, ◌<◌, ◌++◌, ◌∷◌, ℕ, List, [], false, length, map, slice_get, vec_capacity, Some, None, Option, IsTrue, IfOk, IfErr, OnOk, OnErr, IsErrOf};
+ghost use Rattle.std.specs.Prelude.{◌≡◌, ◌≤◌, ℕ, List, [], false, length, map, slice_get, vec_capacity, Some, None, Option, IsTrue, IfOk, IfErr, OnOk, OnErr, IsErrOf};
 ghost use Rattle.rec_base.specs.Causes.{Rose};
 ghost use Rattle.xdf_model.specs.Sample.{Sample as SampleValue};
 ghost use Rattle.plan_model.specs.declared.plan.Mode.TheVariants.{Turns};
@@ -68,18 +68,6 @@ pub(crate) fn take_turns<S: Source, K: Sink>(
     unreachable!()
 }
 
-// Appends a report where there is room for it.
-fn push_report(reports: &mut Vec<FeedReport>, report: FeedReport)
-    requires { length reports.old.items < vec_capacity reports.old }
-    ensures items { reports.new.items ≡ reports.old.items ++ report ∷ [] }
-    ensures room { vec_capacity reports.old ≤ vec_capacity reports.new }
-{
-    match reports.push(report) {
-        Ok(()) => {}
-        Err(_) => unreachable!(),
-    }
-}
-
 // What became of the feeds, into room that was made before.
 fn report_all<S: Source>(inlets: &[Inlet<S>], reports: &mut Vec<FeedReport>)
     requires ended { HaveEnded inlets.now }
@@ -91,7 +79,7 @@ fn report_all<S: Source>(inlets: &[Inlet<S>], reports: &mut Vec<FeedReport>)
         let Some(end) = inlet.end() else {
             unreachable!()
         };
-        push_report(reports, inlet.report(end));
+        reports.push_reserved(inlet.report(end));
     }
 }
 

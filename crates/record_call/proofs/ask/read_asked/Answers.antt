@@ -4,7 +4,7 @@ use Rattle.recording_model.specs.declared.stream.StreamDoc.{StreamDoc}
 use Rattle.record_run.specs.Cost.{cost_of}
 use Rattle.record_call.specs.Feeds.{document_name, IsStreamOf}
 use Rattle.record_call.specs.Recorded.{HasStreams}
-use Rattle.record_call.proofs.Errors.{handed}
+use Rattle.run_model.proofs.Errors.{handed}
 use Rattle.record_call.proofs.Feeds.{each_length}
 use Rattle.record_call.proofs.Plans.{planned, after_plan}
 use Rattle.record_call.proofs.Said.{rose_later}

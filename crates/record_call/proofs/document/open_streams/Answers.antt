@@ -1,7 +1,8 @@
 use Rattle.std.proofs.Common.{rules, List, ◌+◌, take, inl, inr, refl, sym, subst}
 use Rattle.recording_model.specs.declared.stream.StreamDoc.{StreamDoc}
 use Rattle.record_call.specs.Feeds.{AreStreamsRead}
-use Rattle.record_call.proofs.Errors.{handed, handed_back}
+use Rattle.run_model.proofs.Errors.{handed}
+use Rattle.record_call.proofs.Errors.{handed_back}
 use Rattle.record_call.proofs.Feeds.{streams_next, no_stream, failed_here}
 use Rattle.record_call.proofs.Said.{rose_later}
 use Rattle.record_call.proofs.document.open_streams.Goals as goal

@@ -1,7 +1,7 @@
 use Rattle.std.proofs.Common.{inr, ap, ◌∙◌, map}
 use Rattle.std.specs.Prelude.{string_bytes}
 use Rattle.report_model.specs.Shown.{printed_lines}
-use Rattle.record_call.proofs.Errors.{handed}
+use Rattle.run_model.proofs.Errors.{handed}
 use Rattle.record_call.proofs.Records.{whole_cut, file_kept, complete_of, lines_are}
 use Rattle.record_call.proofs.Said.{appends_from, appends_front_from, rose_from}
 use Rattle.record_call.proofs.record.record.Goals as goal

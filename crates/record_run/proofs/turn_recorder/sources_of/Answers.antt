@@ -19,9 +19,9 @@ loop-preserved g c =
     let is : c.loop.inlets.items ≡ d ∷ drop 1 c.loop.inlets.items = cons_of c.loop.inlets.items d first in
     let f : V → g.row.S.Denot = λ x. x.source in
     let rest : c.remove.new.self.items ≡ drop 1 c.loop.inlets.items = c.remove.ensures.items in
-    let new : c.push_source.new.sources.items ≡ c.loop.sources.items ++ d.source ∷ [] = c.push_source.ensures.items ∙ ap (λ (s : g.row.S.Denot). c.loop.sources.items ++ s ∷ []) c.into_source.ensures in
+    let new : c.push_reserved.new.self.items ≡ c.loop.sources.items ++ d.source ∷ [] = c.push_reserved.ensures.items ∙ ap (λ (s : g.row.S.Denot). c.loop.sources.items ++ s ∷ []) c.into_source.ensures in
     let long = ap length new ∙ length-append c.loop.sources.items (d.source ∷ []) in
-    let whole : c.push_source.new.sources.items ++ map f c.remove.new.self.items ≡ map f c.args.inlets.items =
+    let whole : c.push_reserved.new.self.items ++ map f c.remove.new.self.items ≡ map f c.args.inlets.items =
     ap (λ (l : List g.row.S.Denot). l ++ map f c.remove.new.self.items) new
     ∙ ap (λ (l : List V). (c.loop.sources.items ++ d.source ∷ []) ++ map f l) rest
     ∙ append_assoc c.loop.sources.items (d.source ∷ []) (map f (drop 1 c.loop.inlets.items))
@@ -31,7 +31,7 @@ loop-preserved g c =
       whole = whole;
       count = omega (arith, i.count, ap length is, ap length rest);
       size = omega (arith, long, i.size);
-      room = omega (arith, i.room, c.push_source.ensures.room);
+      room = omega (arith, i.room, c.push_reserved.ensures.capacity);
     }
 
 pub returns : goal.returns
