@@ -26,10 +26,10 @@ FEEDS = ("--format float32 --channels 64", "--format double64 --channels 8 --sta
          "--format int16 --channels 2 --stamp-every 0")
 
 
-def make(folder, megabytes, ring):
+def make(folder, megabytes, ring, kinds=FEEDS):
     """Makes the feeds, each with so many bytes, and a plan of each mode."""
     lines = [f"ring {ring}"]
-    for number, words in enumerate(FEEDS, 1):
+    for number, words in enumerate(kinds, 1):
         options = make_feed.parser().parse_args([str(folder / str(number)), *words.split()])
         options.samples = int(megabytes * 1e6 / make_feed.sample_size(options))
         make_feed.make(options)
@@ -76,6 +76,7 @@ def main():
     words.add_argument("--program", type=Path, default=TOP / "crates/record_cli/out/record_cli", help="the recorder")
     words.add_argument("--megabytes", type=float, default=100, help="the bytes of each feed, in millions")
     words.add_argument("--ring", type=int, default=4096)
+    words.add_argument("--kind", type=int, choices=(1, 2, 3), help="all three feeds of this one kind of the three")
     words.add_argument("--repeats", type=int, default=7)
     words.add_argument("--scratch", default="/dev/shm", help="a folder of a file system in memory")
     options = words.parse_args()
@@ -84,7 +85,8 @@ def main():
         folder = Path(name)
         make(folder, 1, 100)
         judge_both(program, folder, processors)
-        make(folder, options.megabytes, options.ring)
+        kinds = (FEEDS[options.kind - 1],) * 3 if options.kind else FEEDS
+        make(folder, options.megabytes, options.ring, kinds)
         found = compare(program, folder, processors, options.repeats)
     print(f"Medians of {options.repeats} runs on {len(processors)} processors; 3 feeds of {options.megabytes} MB.\n")
     print("| | By turns, s | By threads, s | times | Limit | |\n|---|--:|--:|--:|--:|---|")
