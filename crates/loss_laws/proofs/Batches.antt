@@ -15,7 +15,7 @@ use Rattle.loss_model.specs.Loss.{entries_at, AreOf}
 use Rattle.loss_laws.proofs.Entries.{IsFrom}
 use Rattle.loss_laws.proofs.Groups.{entries_of, entries_own, entries_other, stream_at}
 
-of_append : (place : ℕ) (xs ys : List Group) → entries_of place (xs ++ ys) ≡ entries_of place xs ++ entries_of place ys
+pub of_append : (place : ℕ) (xs ys : List Group) → entries_of place (xs ++ ys) ≡ entries_of place xs ++ entries_of place ys
 of_append place [] ys = refl
 of_append place (g ∷ xs) ys =
     let own : List Entry = if g.place == place then entries_in g else [] in

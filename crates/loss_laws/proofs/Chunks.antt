@@ -10,7 +10,7 @@ use Rattle.recording_model.specs.Ledger.{stream_samples}
 use Rattle.recording_model.specs.Layout.{ChunkSamples, boundary_gap, samples_text, with_boundaries}
 use Rattle.recording_model.specs.Recording.{headers}
 
-samples_append : (id : ℕ) (xs ys : List Chunk) → stream_samples id (xs ++ ys) ≡ stream_samples id xs ++ stream_samples id ys
+pub samples_append : (id : ℕ) (xs ys : List Chunk) → stream_samples id (xs ++ ys) ≡ stream_samples id xs ++ stream_samples id ys
 samples_append id [] ys = refl
 samples_append id (Samples stream samples ∷ xs) ys =
     let own : List Sample = if stream == id then samples else [] in
@@ -24,11 +24,11 @@ samples_append id (Other tag body ∷ xs) ys = samples_append id xs ys
 
 -- no header and no footer holds samples
 
-headers_none : (id : ℕ) (streams : List StreamDoc) → stream_samples id (map (λ (s : StreamDoc). StreamHeader s.id s.doc) streams) ≡ []
+pub headers_none : (id : ℕ) (streams : List StreamDoc) → stream_samples id (map (λ (s : StreamDoc). StreamHeader s.id s.doc) streams) ≡ []
 headers_none id [] = refl
 headers_none id (s ∷ streams) = headers_none id streams
 
-footers_none : (id : ℕ) (doc : StreamDoc → List ℕ) (streams : List StreamDoc) → stream_samples id (map (λ (s : StreamDoc). StreamFooter s.id (doc s)) streams) ≡ []
+pub footers_none : (id : ℕ) (doc : StreamDoc → List ℕ) (streams : List StreamDoc) → stream_samples id (map (λ (s : StreamDoc). StreamFooter s.id (doc s)) streams) ≡ []
 footers_none id doc [] = refl
 footers_none id doc (s ∷ streams) = footers_none id doc streams
 
@@ -44,7 +44,7 @@ pub held_append : (id : ℕ) (ps qs : List ChunkSamples) → held id (ps ++ qs) 
 held_append id [] qs = refl
 held_append id (p ∷ ps) qs = ap (λ (t : List Sample). own_samples id p ++ t) (held_append id ps qs) ∙ sym (append_assoc (own_samples id p) (held id ps) (held id qs))
 
-body_samples : (ctx : Context) (since id : ℕ) (ps : List ChunkSamples) → stream_samples id (with_boundaries ctx since ps) ≡ held id ps
+pub body_samples : (ctx : Context) (since id : ℕ) (ps : List ChunkSamples) → stream_samples id (with_boundaries ctx since ps) ≡ held id ps
 body_samples ctx since id [] = refl
 body_samples ctx since id (p ∷ ps) =
     let c : Chunk = Samples p.id p.samples in

@@ -6,6 +6,7 @@ use Rattle.std.proofs.lemmas.Bool.{lt-ltb, le-ltb, le-leb, lt-leb, eq-eqb, ne_eq
 use Rattle.std.proofs.lemmas.List.Folds.{list_any-append}
 use Rattle.std.proofs.lemmas.List.Sums.{sum_by-append}
 use Rattle.std.proofs.lemmas.Option.{slice_get_within}
+use Rattle.std.proofs.Math.Bool.{or-false, or-true}
 use Rattle.xdf_model.specs.Sample.{Sample}
 use Rattle.recording_model.specs.declared.row.Row.{Row}
 use Rattle.recording_model.specs.Batch.{Entry, entries_from}
@@ -165,7 +166,7 @@ apart_lower : (m n : ℕ) (rows : List Row) (end : ℕ) → n ≤ m → AreApart
 apart_lower m n [] end low a = omega (arith, a)
 apart_lower m n (row ∷ rows) end low a = let first = a.0 in (omega (arith, first), a.1)
 
-pub gaps_apart : (id n : ℕ) (es : List Entry) → IsFrom n es → AreApart n (gaps id n es) (behind n es)
+gaps_apart : (id n : ℕ) (es : List Entry) → IsFrom n es → AreApart n (gaps id n es) (behind n es)
 gaps_apart id n [] from = omega arith
 gaps_apart id n (e ∷ es) from =
     let p = e.position in
@@ -246,3 +247,53 @@ entries_are samples id es from of =
     let long = front_length end samples in
     filter_own (λ q. not (is_named rows q)) 0 (take end samples) es from (of_front samples 0 end es from (omega arith) of)
     (λ q low high. twice (is_named rows q) (has q es) (named id 0 es q from low (omega (arith, long, high))))
+
+-- ---- with a row behind the last entry
+
+-- the rows of what is missing between entries, and behind the last one up to an end
+abbrev pub gaps_to : ℕ → ℕ → List Entry → ℕ → List Row
+gaps_to id n es end = gaps id n es ++ gap id (behind n es) end
+
+has_above : (n : ℕ) (es : List Entry) (q : ℕ) → IsFrom n es → behind n es ≤ q → has q es ≡ false
+has_above n [] q from high = refl
+has_above n (e ∷ es) q from high =
+    let up = behind_up (e.position + 1) es from.2 in
+    has_later e es q (λ h. omega (arith, up)) ∙ has_above (e.position + 1) es q from.2 high
+
+named_to : (id n : ℕ) (es : List Entry) (end q : ℕ) → IsFrom n es → n ≤ q → q < end → is_named (gaps_to id n es end) q ≡ not (has q es)
+named_to id n es end q from low high =
+    let G = gaps id n es in
+    named_append G (gap id (behind n es) end) q ∙ elim (cases_lt q (behind n es)) [
+      | inl below ↦ ap (λ (b : Bool). is_named G q || b) (gap_low id (behind n es) end q below) ∙ or-false (is_named G q) ∙ named id n es q from low below
+      | inr above ↦
+          ap (λ (b : Bool). is_named G q || b) (gap_in id (behind n es) end q above high)
+          ∙ or-true (is_named G q)
+          ∙ sym (ap not (has_above n es q from above))
+    ]
+
+apart_append : (n m : ℕ) (xs ys : List Row) (end : ℕ) → AreApart n xs m → AreApart m ys end → AreApart n (xs ++ ys) end
+apart_append n m [] ys end a b = apart_lower m n ys end a b
+apart_append n m (row ∷ xs) ys end a b = (a.0, apart_append (row.first + row.count) m xs ys end a.1 b)
+
+gap_apart : (id n p : ℕ) → n ≤ p → AreApart n (gap id n p) p
+gap_apart id n p low = elim (cases_eq n p) [
+  | inl same ↦ subst (λ (rows : List Row). AreApart n rows p) (sym (no_gap id n p same)) low
+  | inr differs ↦ subst (λ (rows : List Row). AreApart n rows p) (sym (one_gap id n p differs)) (omega arith, omega arith)
+]
+
+pub to_apart : (id n : ℕ) (es : List Entry) (end : ℕ) → IsFrom n es → behind n es ≤ end → AreApart n (gaps_to id n es end) end
+to_apart id n es end from low = apart_append n (behind n es) (gaps id n es) (gap id (behind n es) end) end (gaps_apart id n es from) (gap_apart id (behind n es) end low)
+
+pub to_count : (id n : ℕ) (es : List Entry) (end : ℕ) → IsFrom n es → behind n es ≤ end → (length es + counts (gaps_to id n es end)) + n ≡ end
+to_count id n es end from low =
+    let first = gaps_count id n es from in
+    let parts = sum_by-append (λ (row : Row). row.count) (gaps id n es) (gap id (behind n es) end) in
+    let last = gap_count id (behind n es) end low in
+    omega (arith, first, parts, last, low)
+
+pub entries_to : (samples : List Sample) (id : ℕ) (es : List Entry) (end : ℕ) → IsFrom 0 es → behind 0 es ≤ end → AreOf samples es → entries_without (gaps_to id 0 es end) (take end samples) ≡ es
+entries_to samples id es end from low of =
+    let rows = gaps_to id 0 es end in
+    let long = front_length end samples in
+    filter_own (λ q. not (is_named rows q)) 0 (take end samples) es from (of_front samples 0 end es from low of)
+    (λ q least most. twice (is_named rows q) (has q es) (named_to id 0 es end q from least (omega (arith, long, most))))

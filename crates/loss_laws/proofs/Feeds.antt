@@ -1,6 +1,6 @@
 -- A recording holds of each feed the samples without those that its ledger names.
-use Rattle.std.proofs.Common.{◌≡◌, ℕ, ◌^◌, ◌<◌, ◌≤◌, List, [], length, take, Some, slice_get, sym, ap, ◌∙◌, subst, arith}
-use Rattle.std.proofs.lemmas.List.{length-map}
+use Rattle.std.proofs.Common.{◌≡◌, ℕ, ◌^◌, ◌<◌, List, [], length, take, Some, slice_get, sym, ap, ◌∙◌, subst, arith}
+use Rattle.std.proofs.lemmas.List.{append-nil, length-map}
 use Rattle.xdf_model.specs.Sample.{Sample}
 use Rattle.chunk_grammar.specs.declared.chunk.Chunk.{Chunk}
 use Rattle.chunk_grammar.specs.Chunk.{least_file_text}
@@ -11,11 +11,12 @@ use Rattle.recording_model.specs.Ledger.{stream_samples, all_rows, ledger_rows}
 use Rattle.recording_model.specs.Batch.{Entry, Batch}
 use Rattle.recording_model.specs.Layout.{with_rows}
 use Rattle.recording_model.specs.Recording.{headers, footer_document, lost_in, IsRecording}
-use Rattle.loss_model.specs.Loss.{entries_at, behind_last, AreOf, entries_without, AreApart, accounted, IsFeedPrefix}
-use Rattle.loss_laws.proofs.Entries.{gaps, IsFrom, behind, counts, gaps_apart, gaps_count, behind_is, behind_within, entries_are}
+use Rattle.loss_model.specs.Loss.{entries_at, behind_last, AreOf, entries_without, accounted, IsFeedPrefix}
+use Rattle.loss_laws.proofs.Entries.{gaps, IsFrom, behind, counts, gaps_count, behind_is, entries_are}
 use Rattle.loss_laws.proofs.Chunks.{held, recorded}
 use Rattle.loss_laws.proofs.Groups.{entries_of, samples_of, rows_in, samples_are, rows_are}
 use Rattle.loss_laws.proofs.Batches.{divided_entries, divided_known, in_order_from}
+use Rattle.loss_laws.proofs.Prefixes.{front_is_prefix}
 
 module _ (streams : List StreamDoc) (batches : List Batch) (cs : List Chunk) (place : ℕ) (s : StreamDoc) (samples : List Sample)
     (r : IsRecording streams batches cs) (is : slice_get streams place ≡ Some s) (of : AreOf samples (entries_at place batches)) (few : length samples < 2 ^ 62) where
@@ -55,14 +56,7 @@ module _ (streams : List StreamDoc) (batches : List Batch) (cs : List Chunk) (pl
       ∙ ap (λ (n : ℕ). entries_without (gaps s.id 0 entries) (take n samples)) accounted_is
       ∙ entries_are samples s.id entries from of
 
-  prefix : IsFeedPrefix samples cs s.id
-  prefix = record {
-    rows = subst (λ (n : ℕ). AreApart 0 (ledger_rows s.id cs) n) (sym accounted_is) (subst (λ (rows : List Row). AreApart 0 rows (behind 0 entries)) (sym rows_held) (gaps_apart s.id 0 entries from));
-    within = subst (λ (n : ℕ). n ≤ length samples) (sym accounted_is) (behind_within samples 0 entries (omega arith) of);
-    kept = samples_held ∙ sym (ap samples_of entries_kept);
-  }
-
   pub of_its_feed : IsFeedPrefix samples cs s.id
       × (accounted s.id cs ≡ behind_last (entries_at place batches))
       × (entries_at place batches ≡ entries_without (ledger_rows s.id cs) (take (accounted s.id cs) samples))
-  of_its_feed = (prefix, accounted_is ∙ sym (behind_is entries), sym entries_kept)
+  of_its_feed = (front_is_prefix streams batches cs cs [] place s samples r (sym (append-nil cs)) is of few, accounted_is ∙ sym (behind_is entries), sym entries_kept)

@@ -49,7 +49,7 @@ other_stream (u ∷ streams) (suc p) (suc q) s t are a b e = other_stream stream
 abbrev pub rows_in : ℕ → List Sample → List Row
 rows_in id ss = filter (λ (row : Row). row.stream == id) (filter_map row_in ss)
 
-rows_append : (id : ℕ) (xs ys : List Sample) → rows_in id (xs ++ ys) ≡ rows_in id xs ++ rows_in id ys
+pub rows_append : (id : ℕ) (xs ys : List Sample) → rows_in id (xs ++ ys) ≡ rows_in id xs ++ rows_in id ys
 rows_append id xs ys =
     ap (filter (λ (row : Row). row.stream == id)) (filter_map-append row_in xs ys)
     ∙ filter-append (λ (row : Row). row.stream == id) (filter_map row_in xs) (filter_map row_in ys)
@@ -96,13 +96,13 @@ gap_present : (i n p : ℕ) → n ≢ p → gap i n p ≡ record { stream = i; f
 gap_present i n p e = let test = ne_eqb n p e in rw test refl
 
 -- it holds nothing of a stream that isn't the ledger
-row_quiet : (id i n p : ℕ) → 1 ≤ id → held id (row_before i n p) ≡ []
+pub row_quiet : (id i n p : ℕ) → 1 ≤ id → held id (row_before i n p) ≡ []
 row_quiet id i n p low = elim (cases_eq n p) [
   | inl e ↦ ap (held id) (row_absent i n p e)
   | inr e ↦ ap (held id) (row_present i n p e) ∙ (let test = ne_eqb 0 id (λ h. omega arith) in rw test refl)
 ]
 
-row_is : (id n p : ℕ) → 1 ≤ id → id ≤ 65_535 → n ≤ p → p < 2 ^ 62 → rows_in id (held 0 (row_before id n p)) ≡ gap id n p
+pub row_is : (id n p : ℕ) → 1 ≤ id → id ≤ 65_535 → n ≤ p → p < 2 ^ 62 → rows_in id (held 0 (row_before id n p)) ≡ gap id n p
 row_is id n p low high first bound = elim (cases_eq n p) [
   | inl e ↦ ap (λ (ps : List ChunkSamples). rows_in id (held 0 ps)) (row_absent id n p e) ∙ sym (gap_absent id n p e)
   | inr e ↦
@@ -112,7 +112,7 @@ row_is id n p low high first bound = elim (cases_eq n p) [
       ∙ sym (gap_present id n p e)
 ]
 
-row_isnt : (id i n p : ℕ) → i ≢ id → rows_in id (held 0 (row_before i n p)) ≡ []
+pub row_isnt : (id i n p : ℕ) → i ≢ id → rows_in id (held 0 (row_before i n p)) ≡ []
 row_isnt id i n p differs = elim (cases_eq n p) [
   | inl e ↦ ap (λ (ps : List ChunkSamples). rows_in id (held 0 ps)) (row_absent i n p e)
   | inr e ↦ ap (λ (ps : List ChunkSamples). rows_in id (held 0 ps)) (row_present i n p e) ∙ row_other id (record { stream = i; first = n; count = p - n }) differs
@@ -162,17 +162,17 @@ held_other id p ps e = let test = ne_eqb p.id id e in rw test refl
 -- ---- all groups
 
 module _ (streams : List StreamDoc) (place : ℕ) (s : StreamDoc) (are : AreStreams streams) (is : slice_get streams place ≡ Some s) where
-  stream_fine : IsStream s
+  pub stream_fine : IsStream s
   stream_fine = stream_at streams place s are is
 
-  own_id : (p : ℕ) → p ≡ place → id_at streams p ≡ s.id
+  pub own_id : (p : ℕ) → p ≡ place → id_at streams p ≡ s.id
   own_id p e = ap (id_at streams) e ∙ ap id_of is
 
   other_of : (p : ℕ) (o : Option StreamDoc) → slice_get streams p ≡ o → p ≢ place → id_of o ≢ s.id
   other_of p None e differs = λ h. let low = stream_fine.low in omega (arith, low, h)
   other_of p (Some t) e differs = other_stream streams p place t s are e is differs
 
-  other_id : (p : ℕ) → p ≢ place → id_at streams p ≢ s.id
+  pub other_id : (p : ℕ) → p ≢ place → id_at streams p ≢ s.id
   other_id p differs = other_of p (slice_get streams p) refl differs
 
   -- what is held of the stream are the samples of its entries

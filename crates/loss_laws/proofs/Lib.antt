@@ -2,6 +2,8 @@ pub mod Entries
 pub mod Chunks
 pub mod Groups
 pub mod Batches
+pub mod Prefixes
 pub mod Feeds
 pub mod Rings
 pub mod Dropped
+pub mod Partial
