@@ -129,9 +129,9 @@ impl<'a, K: Sink> Lent<'a, K, WriterRoom> {
     /// behind each chunk that ends 65,536 bytes or more behind the last one. All this is this project's
     /// own. The room for samples of numeric streams is made before, so these ask for no memory.
     ///
-    /// `WriteFault` comes only where a write of the sink failed in this call. A front of a recording's
-    /// file is held then, and the writer is broken. `Memory` comes for want of memory alone, and changes
-    /// nothing.
+    /// `WriteFault` comes only where a write of the sink failed in this call. A front of the text of a
+    /// recording's first chunks is held then, and the writer is broken. `Memory` comes for want of memory
+    /// alone, and changes nothing.
     pub fn put(&mut self, place: usize, position: u64, sample: &Sample) -> Result<(), WriterFault>
         requires place { place < length self.old.room.desk.places }
         requires position { position < 2 ^ 41 }
@@ -168,7 +168,7 @@ impl<'a, K: Sink> Lent<'a, K, WriterRoom> {
     /// 1,048,576 bytes. It takes no memory.
     ///
     /// `WriteFault` is the only error, and comes only where a write of the sink failed in this call. A
-    /// front of a recording's file is held then, and the writer is broken.
+    /// front of the text of a recording's first chunks is held then, and the writer is broken.
     #[inline]
     pub fn put_block(
         &mut self,
@@ -209,8 +209,8 @@ impl<'a, K: Sink> Lent<'a, K, WriterRoom> {
 
     /// Closes the open batch, if there is one: its last chunk is written. It takes no memory.
     ///
-    /// `WriteFault` comes only where a write of the sink failed in this call. A front of a recording's
-    /// file is held then, and the writer is broken.
+    /// `WriteFault` comes only where a write of the sink failed in this call. A front of the text of a
+    /// recording's first chunks is held then, and the writer is broken.
     pub fn close_batch(&mut self) -> Result<(), WriterFault>
         requires whole { self.old.room.desk.broken ≡ false }
         ensures same_reference { self.new.sink.ghost_name ≡ self.old.sink.ghost_name }
