@@ -8,7 +8,8 @@ ghost use Rattle.recording_model.specs.declared.stream.StreamDoc.{StreamDoc as S
 ghost use Rattle.recording_model.specs.Batch.{Batch};
 ghost use Rattle.loss_model.specs.Loss.{behind_last};
 ghost use Rattle.record_writer.specs.Desk.{next_at, shapes_of, IsFreeFor};
-ghost use Rattle.record_writer.specs.Standing.{StandsFor, IsCut};
+ghost use Rattle.record_writer.specs.Standing.{StandsFor, IsCut, closed};
+ghost use Rattle.run_model.specs.Putting.{IsCutAt};
 ghost use Rattle.run_model.specs.Rings.{ring_entry};
 ghost use Rattle.thread_ring.specs.Ends.{AreFew};
 ghost use Rattle.feed_lane.specs.Lanes.{IsLessBy};
@@ -87,10 +88,11 @@ impl LaneLast {
         ensures same_reference { writer.new.sink.ghost_name ≡ writer.old.sink.ghost_name }
         ensures same { (self.new.capacity ≡ self.old.capacity) × (self.new.shape ≡ self.old.shape) }
         ensures reached { IsReached self.new.capacity self.new.state }
+        ensures kept { self.new.state.puts ≡ self.old.state.puts }
         ensures out { IfOk result (λ some. IsLessBy self.old self.new place writer.old.room.desk writer.new.room.desk (K.held writer.old.sink.now) (K.held writer.new.sink.now) some) }
         ensures cut { (streams : List StreamValue) (base : Option (List ℕ)) (batches : List Batch) (current : Option Batch)
             → StandsFor streams base (K.held writer.old.sink.now) writer.old.room.desk batches current
-            → OnErr result ((some : List Batch) × IsCut streams base (K.held writer.new.sink.now) some) }
+            → OnErr result ((some : List Batch) × IsCut streams base (K.held writer.new.sink.now) some × IsCutAt place self.old.state.taken self.new.state.taken (closed batches current) some) }
         ensures memory { IsErrOf result WriterFault.Memory → 1 ≤ size_of self.old.shape.format → ⊥ }
         ensures cause { IsErrOf result WriterFault.WriteFault → Rose (K.write_faults writer.old.sink.now) (K.write_faults writer.new.sink.now) }
         ensures later { K.write_faults writer.old.sink.now ≤ K.write_faults writer.new.sink.now }

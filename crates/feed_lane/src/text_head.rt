@@ -6,7 +6,8 @@ ghost use Rattle.recording_model.specs.declared.stream.StreamDoc.{StreamDoc as S
 ghost use Rattle.recording_model.specs.Batch.{Batch};
 ghost use Rattle.loss_model.specs.Loss.{behind_last};
 ghost use Rattle.record_writer.specs.Desk.{next_at, shapes_of, IsFreeFor};
-ghost use Rattle.record_writer.specs.Standing.{StandsFor, IsCut};
+ghost use Rattle.record_writer.specs.Standing.{StandsFor, IsCut, closed};
+ghost use Rattle.run_model.specs.Putting.{IsCutAt};
 ghost use Rattle.run_model.specs.Rings.{ring_entry};
 ghost use Rattle.feed_lane.specs.Lanes.{IsPutOut};
 
@@ -56,7 +57,7 @@ impl TextHead {
         ensures out { IfOk result (λ some. IsPutOut self.old self.new place writer.old.room.desk writer.new.room.desk (K.held writer.old.sink.now) (K.held writer.new.sink.now) some) }
         ensures cut { (streams : List StreamValue) (base : Option (List ℕ)) (batches : List Batch) (current : Option Batch)
             → StandsFor streams base (K.held writer.old.sink.now) writer.old.room.desk batches current
-            → OnErr result ((some : List Batch) × IsCut streams base (K.held writer.new.sink.now) some) }
+            → OnErr result ((some : List Batch) × IsCut streams base (K.held writer.new.sink.now) some × IsCutAt place self.old.taken self.new.taken (closed batches current) some) }
         ensures cause { IsErrOf result WriterFault.WriteFault → Rose (K.write_faults writer.old.sink.now) (K.write_faults writer.new.sink.now) }
         ensures later { K.write_faults writer.old.sink.now ≤ K.write_faults writer.new.sink.now }
         ensures rest { K.rest writer.new.sink.now ≡ K.rest writer.old.sink.now }

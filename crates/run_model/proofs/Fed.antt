@@ -24,7 +24,7 @@ use Rattle.run_model.specs.Run.{feed_of, IsFed, report_of}
 use Rattle.run_model.specs.Rings.{ring_entry}
 
 -- what a ring took out is of its feed
-are_of_taken : (samples : List Sample) (es : List (RingEntry Sample)) → AllByRecursion (λ e. slice_get samples e.position ≡ Some e.value) es → AreOf samples (map ring_entry es)
+pub are_of_taken : (samples : List Sample) (es : List (RingEntry Sample)) → AllByRecursion (λ e. slice_get samples e.position ≡ Some e.value) es → AreOf samples (map ring_entry es)
 are_of_taken samples [] all = tt
 are_of_taken samples (e ∷ es) all = (all.0, are_of_taken samples es all.1)
 

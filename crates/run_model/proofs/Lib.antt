@@ -6,3 +6,5 @@ pub mod Texts
 pub mod Batches
 pub mod Fed
 pub mod BothModes
+pub mod Firsts
+pub mod Cuts

@@ -23,9 +23,13 @@ returns-in_err-put-clause-cut g c = λ streams base batches current st.
     let b = c.in-Some.entry.value in
     let w = c.args.writer.now in
     let now = c.put_block-put.new.self in
+    let f = entry_in x.shape in
+    let e = c.in-Some.entry in
     let S : HeadView → Type 0 = λ h. slice_get (shapes_of w.room.desk) c.args.place ≡ Some h.lane.shape in
+    let T : HeadView → Type 0 = λ h. map f c.take.new.self.taken ≡ h.taken ++ f e ∷ [] in
     on_err c.from_residual.result
-    (block_cut c.args.place c.in-Some.entry.position x.shape b w.room.desk now.room.desk (g.K.Sink.held w.sink.now) (g.K.Sink.held now.sink.now) (subst S (sym c.self.view_is) c.requires.shape)
+    (block_cut c.args.place e.position x.shape b w.room.desk now.room.desk (g.K.Sink.held w.sink.now) (g.K.Sink.held now.sink.now) c.args.self.now.taken (map f c.take.new.self.taken)
+    (subst T c.self.view_is (ap (map f) c.in-Some.ensures.taken ∙ map-append f x.head.taken (e ∷ []))) c.requires.free (subst S (sym c.self.view_is) c.requires.shape)
     (meets_full x.head.terms x.shape b c.self.invariant.1 c.in-Some.ensures.carried.value) c.in_err-put.ensures.cut streams base batches current st)
 
 pub returns-clause-out : goal.returns-clause-out

@@ -1,4 +1,4 @@
-use Rattle.std.proofs.Common.{◌≡◌, ℕ, ◌∷◌, [], map, slice_get, Some, refl, sym, ap, ◌∙◌, subst, arith}
+use Rattle.std.proofs.Common.{◌≡◌, ℕ, ◌∷◌, ◌++◌, [], map, slice_get, Some, refl, sym, ap, ◌∙◌, subst, arith}
 use Rattle.std.proofs.lemmas.List.{map-append}
 use Rattle.ring_model.specs.Ring.{RingState}
 use Rattle.loss_model.specs.Loss.{behind_last}
@@ -42,9 +42,15 @@ returns-in_err-put-clause-cut g c = λ streams base batches current st.
     let b = c.in-Some.entry.value in
     let w = c.args.writer.now in
     let now = c.put_block-put.new.self in
+    let f = entry_in x.shape in
+    let e = c.in-Some.entry in
+    let t = c.in-Some.ensures in
+    let k = took x.last.capacity x.last.state c.take.new.self.state e t.step t.oldest in
     let S : LastView → Type 0 = λ l. slice_get (shapes_of w.room.desk) c.args.place ≡ Some l.shape in
+    let T : LastView → Type 0 = λ l. map f c.take.new.self.state.taken ≡ l.state.taken ++ f e ∷ [] in
     on_err c.from_residual.result
-    (block_cut c.args.place c.in-Some.entry.position x.shape b w.room.desk now.room.desk (g.K.Sink.held w.sink.now) (g.K.Sink.held now.sink.now) (subst S (sym c.self.view_is) c.requires.shape)
+    (block_cut c.args.place e.position x.shape b w.room.desk now.room.desk (g.K.Sink.held w.sink.now) (g.K.Sink.held now.sink.now) c.args.self.now.state.taken (map f c.take.new.self.state.taken)
+    (subst T c.self.view_is (ap (map f) k.0 ∙ map-append f x.last.state.taken (e ∷ []))) c.requires.free (subst S (sym c.self.view_is) c.requires.shape)
     (meets_full x.last.terms x.shape b c.self.invariant.1 c.in-Some.ensures.carried.value) c.in_err-put.ensures.cut streams base batches current st)
 
 pub returns-clause-reached : goal.returns-clause-reached

@@ -24,7 +24,9 @@ put-requires-clause-fits g c =
 pub returns-in_err-put-clause-cut : goal.returns-in_err-put-clause-cut
 returns-in_err-put-clause-cut g c =
     let e = c.in-Some.entry in
-    text_cut c.args.place e.position e.value c.args.writer.now.room.desk (g.K.Sink.held c.args.writer.now.sink.now) (g.K.Sink.held c.put.new.self.sink.now) c.from_residual.result
+    let T : HeadView → Type 0 = λ h. c.take.new.self.taken ≡ h.taken ++ e ∷ [] in
+    text_cut c.args.place e c.args.self.now.taken c.take.new.self.taken c.args.writer.now.room.desk (g.K.Sink.held c.args.writer.now.sink.now) (g.K.Sink.held c.put.new.self.sink.now) c.from_residual.result
+    (subst T c.self.view_is c.in-Some.ensures.taken) c.requires.free
     (λ streams base batches current st is. c.in_err-put.ensures.cut streams base batches current st (search rules))
     (λ is. let same = c.in_err-put.ensures.memory (search rules) in ap g.K.Sink.held same.1)
 

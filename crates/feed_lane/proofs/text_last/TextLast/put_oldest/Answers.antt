@@ -1,4 +1,4 @@
-use Rattle.std.proofs.Common.{rules, ◌≡◌, ℕ, [], map, slice_get, Some, refl, sym, ap, ◌∙◌, subst, arith}
+use Rattle.std.proofs.Common.{rules, ◌≡◌, ℕ, ◌∷◌, ◌++◌, [], map, slice_get, Some, refl, sym, ap, ◌∙◌, subst, arith}
 use Rattle.loss_model.specs.Loss.{behind_last}
 use Rattle.record_writer.specs.Desk.{next_at, shapes_of}
 use Rattle.run_model.specs.Rings.{ring_entry}
@@ -35,8 +35,13 @@ put-requires-clause-fits g c =
 
 pub returns-in_err-put-clause-cut : goal.returns-in_err-put-clause-cut
 returns-in_err-put-clause-cut g c =
+    let x = c.self.inside in
     let e = c.in-Some.entry in
-    text_cut c.args.place e.position e.value c.args.writer.now.room.desk (g.K.Sink.held c.args.writer.now.sink.now) (g.K.Sink.held c.put.new.self.sink.now) c.from_residual.result
+    let t = c.in-Some.ensures in
+    let k = took x.last.capacity x.last.state c.take.new.self.state e t.step t.oldest in
+    let T : LastView → Type 0 = λ l. c.take.new.self.state.taken ≡ l.state.taken ++ e ∷ [] in
+    text_cut c.args.place e c.args.self.now.state.taken c.take.new.self.state.taken c.args.writer.now.room.desk (g.K.Sink.held c.args.writer.now.sink.now) (g.K.Sink.held c.put.new.self.sink.now) c.from_residual.result
+    (subst T c.self.view_is k.0) c.requires.free
     (λ streams base batches current st is. c.in_err-put.ensures.cut streams base batches current st (search rules))
     (λ is. let same = c.in_err-put.ensures.memory (search rules) in ap g.K.Sink.held same.1)
 
