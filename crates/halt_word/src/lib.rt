@@ -6,7 +6,7 @@
 //! looker sees the word only once it was raised, and from then on at each look; and that each call of
 //! [`Looker::seen`] looks. Where [`close_halt`], which takes raiser and lookers back, answers that the word
 //! wasn't raised, none of those lookers saw it. It doesn't promise how soon a looker sees what was raised.
-//! All memory is taken as the word is made. Nothing uses this crate yet.
+//! All memory is taken as the word is made.
 #![tactic(auto)]
 
 mod ends;

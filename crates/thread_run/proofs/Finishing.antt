@@ -1,6 +1,6 @@
 -- The end of a run.
 use Rattle.std.proofs.Common.{◌≡◌, ◌≢◌, ℕ, zero, suc, ◌+◌, ◌-◌, ◌^◌, ◌≤◌, List, [], ◌∷◌, length, map, slice_get, Option, Some, refl, sym, ap, ◌∙◌, subst, arith, Result, Ok, Err}
-use Rattle.std.specs.Prelude.{OnErr, OnOk, IfOk}
+use Rattle.std.specs.Prelude.{OnOk, IfOk}
 use Rattle.std.proofs.lemmas.Option.{slice_get_within}
 use Rattle.reading_model.specs.Read.{Reader, IsRead}
 use Rattle.xdf_model.specs.Sample.{Sample, size_of}
@@ -19,7 +19,7 @@ use Rattle.record_writer.specs.declared.fault.WriterFault.{WriterFault}
 use Rattle.record_writer.specs.declared.fault.WriterFault.TheVariants as fault
 use Rattle.record_writer.specs.declared.written.Written.{Written}
 use Rattle.record_writer.specs.Desk.{DeskState}
-use Rattle.record_writer.specs.Standing.{IsCut, IsFinished}
+use Rattle.record_writer.specs.Standing.{IsFinished}
 use Rattle.run_model.specs.declared.feed.FeedSource.{FeedSource}
 use Rattle.run_model.specs.declared.outcome.Outcome.{Outcome}
 use Rattle.run_model.specs.declared.outcome.Outcome.TheVariants as outcome
@@ -28,37 +28,32 @@ use Rattle.run_model.specs.Fitting.{AreNumbers}
 use Rattle.run_model.specs.Rings.{ring_entry}
 use Rattle.run_model.specs.Run.{feed_of, Fed, IsFed, report_of}
 use Rattle.run_model.specs.Outcomes.{IsCutOff, IsRecorded}
-use Rattle.run_model.proofs.Batches.{cut_off}
 use Rattle.run_model.proofs.Fed.{fed_is, report_is}
 use Rattle.run_model.proofs.Lists.{item_at}
 use Rattle.thread_ring.specs.Ends.{AreFew}
 use Rattle.feed_lane.specs.Lanes.{Lane}
 use Rattle.thread_run.specs.declared.work.InletDone.{InletDone}
-use Rattle.thread_run.specs.declared.work.InletDone.TheVariants.{Ended, Memory}
+use Rattle.thread_run.specs.declared.work.InletDone.TheVariants.{Ended, Memory, Halted}
 use Rattle.thread_run.specs.declared.work.Work.{Work}
 use Rattle.thread_run.specs.declared.work.Worked.{Worked}
 use Rattle.thread_run.specs.declared.lane.CountedHead.{CountedHead}
-use Rattle.thread_run.specs.declared.settle.Settled.{Settled}
+use Rattle.thread_run.specs.declared.settle.Joined.{Joined}
 use Rattle.thread_run.specs.Work.{HasEnded, HasWorked}
 use Rattle.thread_run.specs.Settled.{IsSettled}
 use Rattle.thread_run.specs.Opening.{IsNewLane, ThreadsView, AreThreadsFor}
 use Rattle.thread_run.specs.Concluded.{HaveRun, HaveSettled, HaveEnded, end_in, report_in}
 use Rattle.thread_run.proofs.Behind.{behind_all}
 
--- a front of some recording, where an error came
-pub cut_if : {R E : Type 0} (r : Result R E) (streams : List StreamDoc) (base held : Option (List ℕ)) → OnErr r ((some : List Batch) × IsCut streams base held some) → OnErr r (IsCutOff streams base held)
-cut_if (Ok x) streams base held k = tt
-cut_if (Err e) streams base held k = cut_off streams base held k.0 k.1
-
 -- a fact that each success has
 pub on_ok : {R E : Type 0} (r : Result R E) (P : R → Type 0) (Q : Type 0) → ((x : R) → P x → Q) → IfOk r P → OnOk r Q
 on_ok (Ok x) P Q f h = f x h
 on_ok (Err e) P Q f h = tt
 
--- an inlet that didn't want memory ended
-pub ended_or : (d : InletDone) → d ≢ Memory → (e : FeedEnd) × (d ≡ Ended e)
-ended_or (Ended e) apart = (e, refl)
-ended_or Memory apart = absurd (apart refl)
+-- an inlet that neither wanted memory nor was stopped ended
+pub ended_or : (d : InletDone) → d ≢ Memory → d ≢ Halted → (e : FeedEnd) × (d ≡ Ended e)
+ended_or (Ended e) apart going = (e, refl)
+ended_or Memory apart going = absurd (apart refl)
+ended_or Halted apart going = absurd (going refl)
 
 -- what a writer's fault is told as
 pub told_fault : {S : Type 0} (f : WriterFault) (told : Outcome S) → (f ≡ fault.Memory → told ≡ outcome.Memory) → told ≡ outcome.WriteFault → f ≡ fault.WriteFault
@@ -68,7 +63,7 @@ told_fault fault.Memory told memory is = let is_memory = memory refl in absurd c
 -- a run that a fault of the writer stopped
 pub stopped_run : {S M : Type 0} (left_of : S → Option (List ℕ)) (faults_of : S → ℕ) (mark_of : S → M) (batch : ℕ) (desk : DeskState) (v : ThreadsView S) (before now : Option (List ℕ)) (f : WriterFault) (told : Outcome S)
     → (f ≡ fault.WriteFault → told ≡ outcome.WriteFault) → (f ≡ fault.Memory → told ≡ outcome.Memory)
-    → ((ring : ℕ) (streams : List StreamDoc) (feeds : List (FeedSource S)) → AreThreadsFor ring batch streams feeds desk v → IsCutOff streams before now)
+    → ((ring : ℕ) (streams : List StreamDoc) (feeds : List (FeedSource S)) → AreThreadsFor ring batch streams feeds desk v → IsCutOff left_of streams feeds before now)
     → ((ring : ℕ) (streams : List StreamDoc) (feeds : List (FeedSource S)) → AreThreadsFor ring batch streams feeds desk v → AreNumbers streams → f ≡ fault.Memory → ⊥)
     → HaveRun left_of faults_of mark_of batch desk v before now told
 stopped_run {S = S} left_of faults_of mark_of batch desk v before now fault.WriteFault told a b cut memory =
@@ -87,10 +82,10 @@ stopped_run {S = S} left_of faults_of mark_of batch desk v before now fault.Memo
 -- ---- one feed
 
 module _ {S M : Type 0} (left_of : S → Option (List ℕ)) (faults_of : S → ℕ) (mark_of : S → M) where
-  abbrev fed_of : StreamDoc → FeedSource S → Settled S → Fed S
+  abbrev fed_of : StreamDoc → FeedSource S → Joined S → Fed S
   fed_of stream feed s = record { stream = stream; feed = feed; last = s.reader.source; samples = s.lane.last.state.puts; end = end_in s.done }
 
-  module _ (ring place : ℕ) (streams : List StreamDoc) (batches : List Batch) (chunks : List Chunk) (stream : StreamDoc) (feed : FeedSource S) (work : Work S) (head : CountedHead) (worked : Worked S) (s : Settled S) (e : FeedEnd)
+  module _ (ring place : ℕ) (streams : List StreamDoc) (batches : List Batch) (chunks : List Chunk) (stream : StreamDoc) (feed : FeedSource S) (work : Work S) (head : CountedHead) (worked : Worked S) (s : Joined S) (e : FeedEnd)
       (recording : IsRecording streams batches chunks) (has_stream : slice_get streams place ≡ Some stream)
       (new : IsNewLane ring stream feed work head) (did : HasWorked left_of faults_of mark_of work worked) (is : IsSettled worked s) (taken : map ring_entry s.lane.last.state.taken ≡ entries_at place batches) (done : s.done ≡ Ended e) where
     abbrev state : RingState Sample
@@ -157,27 +152,27 @@ module _ {S M : Type 0} (left_of : S → Option (List ℕ)) (faults_of : S → �
   -- ---- all feeds
 
   -- each feed with its stream and what it gave
-  abbrev all_fed : List StreamDoc → List (FeedSource S) → List (Settled S) → List (Fed S)
+  abbrev all_fed : List StreamDoc → List (FeedSource S) → List (Joined S) → List (Fed S)
   all_fed (s ∷ streams) (d ∷ feeds) (x ∷ xs) = fed_of s d x ∷ all_fed streams feeds xs
   all_fed [] feeds xs = []
   all_fed (s ∷ streams) [] xs = []
   all_fed (s ∷ streams) (d ∷ feeds) [] = []
 
-  fed_streams : (streams : List StreamDoc) (feeds : List (FeedSource S)) (xs : List (Settled S)) → length feeds ≡ length streams → length xs ≡ length streams → map (λ (y : Fed S). y.stream) (all_fed streams feeds xs) ≡ streams
+  fed_streams : (streams : List StreamDoc) (feeds : List (FeedSource S)) (xs : List (Joined S)) → length feeds ≡ length streams → length xs ≡ length streams → map (λ (y : Fed S). y.stream) (all_fed streams feeds xs) ≡ streams
   fed_streams [] feeds xs a b = refl
   fed_streams (s ∷ streams) [] xs a b = absurd (omega (arith, a))
   fed_streams (s ∷ streams) (d ∷ feeds) [] a b = absurd (omega (arith, b))
   fed_streams (s ∷ streams) (d ∷ feeds) (x ∷ xs) a b = ap (λ (t : List StreamDoc). s ∷ t) (fed_streams streams feeds xs (omega (arith, a)) (omega (arith, b)))
 
-  fed_feeds : (streams : List StreamDoc) (feeds : List (FeedSource S)) (xs : List (Settled S)) → length feeds ≡ length streams → length xs ≡ length streams → map (λ (y : Fed S). y.feed) (all_fed streams feeds xs) ≡ feeds
+  fed_feeds : (streams : List StreamDoc) (feeds : List (FeedSource S)) (xs : List (Joined S)) → length feeds ≡ length streams → length xs ≡ length streams → map (λ (y : Fed S). y.feed) (all_fed streams feeds xs) ≡ feeds
   fed_feeds [] [] xs a b = refl
   fed_feeds [] (d ∷ feeds) xs a b = absurd (omega (arith, a))
   fed_feeds (s ∷ streams) [] xs a b = absurd (omega (arith, a))
   fed_feeds (s ∷ streams) (d ∷ feeds) [] a b = absurd (omega (arith, b))
   fed_feeds (s ∷ streams) (d ∷ feeds) (x ∷ xs) a b = ap (λ (t : List (FeedSource S)). d ∷ t) (fed_feeds streams feeds xs (omega (arith, a)) (omega (arith, b)))
 
-  fed_lasts : (streams : List StreamDoc) (feeds : List (FeedSource S)) (xs : List (Settled S)) → length feeds ≡ length streams → length xs ≡ length streams
-      → map (λ (y : Fed S). y.last) (all_fed streams feeds xs) ≡ map (λ (x : Settled S). x.reader.source) xs
+  fed_lasts : (streams : List StreamDoc) (feeds : List (FeedSource S)) (xs : List (Joined S)) → length feeds ≡ length streams → length xs ≡ length streams
+      → map (λ (y : Fed S). y.last) (all_fed streams feeds xs) ≡ map (λ (x : Joined S). x.reader.source) xs
   fed_lasts [] feeds [] a b = refl
   fed_lasts [] feeds (x ∷ xs) a b = absurd (omega (arith, b))
   fed_lasts (s ∷ streams) [] xs a b = absurd (omega (arith, a))
@@ -185,16 +180,16 @@ module _ {S M : Type 0} (left_of : S → Option (List ℕ)) (faults_of : S → �
   fed_lasts (s ∷ streams) (d ∷ feeds) (x ∷ xs) a b = ap (λ (t : List S). x.reader.source ∷ t) (fed_lasts streams feeds xs (omega (arith, a)) (omega (arith, b)))
 
   -- which feed stands at a place
-  fed_at : (streams : List StreamDoc) (feeds : List (FeedSource S)) (xs : List (Settled S)) (p : ℕ) (y : Fed S) → slice_get (all_fed streams feeds xs) p ≡ Some y
-      → (s : StreamDoc) × (d : FeedSource S) × (x : Settled S) × (slice_get streams p ≡ Some s) × (slice_get feeds p ≡ Some d) × (slice_get xs p ≡ Some x) × (y ≡ fed_of s d x)
+  fed_at : (streams : List StreamDoc) (feeds : List (FeedSource S)) (xs : List (Joined S)) (p : ℕ) (y : Fed S) → slice_get (all_fed streams feeds xs) p ≡ Some y
+      → (s : StreamDoc) × (d : FeedSource S) × (x : Joined S) × (slice_get streams p ≡ Some s) × (slice_get feeds p ≡ Some d) × (slice_get xs p ≡ Some x) × (y ≡ fed_of s d x)
   fed_at [] feeds xs p y e = absurd cc
   fed_at (s ∷ streams) [] xs p y e = absurd cc
   fed_at (s ∷ streams) (d ∷ feeds) [] p y e = absurd cc
   fed_at (s ∷ streams) (d ∷ feeds) (x ∷ xs) zero y e = (s, d, x, refl, refl, refl, sym (cc e))
   fed_at (s ∷ streams) (d ∷ feeds) (x ∷ xs) (suc p) y e = fed_at streams feeds xs p y e
 
-  reports_same : (chunks : List Chunk) (streams : List StreamDoc) (feeds : List (FeedSource S)) (xs : List (Settled S)) → length feeds ≡ length streams → length xs ≡ length streams
-      → ((p : ℕ) (s : StreamDoc) (d : FeedSource S) (x : Settled S) → slice_get streams p ≡ Some s → slice_get feeds p ≡ Some d → slice_get xs p ≡ Some x → report_in x ≡ report_of chunks (fed_of s d x))
+  reports_same : (chunks : List Chunk) (streams : List StreamDoc) (feeds : List (FeedSource S)) (xs : List (Joined S)) → length feeds ≡ length streams → length xs ≡ length streams
+      → ((p : ℕ) (s : StreamDoc) (d : FeedSource S) (x : Joined S) → slice_get streams p ≡ Some s → slice_get feeds p ≡ Some d → slice_get xs p ≡ Some x → report_in x ≡ report_of chunks (fed_of s d x))
       → map report_in xs ≡ map (report_of chunks) (all_fed streams feeds xs)
   reports_same chunks [] feeds [] a b each = refl
   reports_same chunks [] feeds (x ∷ xs) a b each = absurd (omega (arith, b))
@@ -205,12 +200,12 @@ module _ {S M : Type 0} (left_of : S → Option (List ℕ)) (faults_of : S → �
       ∙ ap (λ (l : List FeedReport). report_of chunks (fed_of s d x) ∷ l) (reports_same chunks streams feeds xs (omega (arith, a)) (omega (arith, b)) (λ p t f y et ef ey. each (suc p) t f y et ef ey))
 
   module _ (ring batch : ℕ) (streams : List StreamDoc) (feeds : List (FeedSource S)) (desk : DeskState) (v : ThreadsView S) (k : AreThreadsFor ring batch streams feeds desk v)
-      (base held : Option (List ℕ)) (last : DeskState) (all : List (Settled S)) (h : HaveSettled left_of faults_of mark_of batch streams base held last v.works all) where
+      (base held : Option (List ℕ)) (last : DeskState) (all : List (Joined S)) (h : HaveSettled left_of faults_of mark_of batch streams base held last v.works all) where
     pub all_count : length all ≡ length streams
     all_count = h.are_settled.count ∙ h.are_worked.count ∙ k.work_count
 
     -- no inlet wants memory where all are of numbers
-    pub none_ran_out : AreNumbers streams → (p : ℕ) (s : Settled S) → slice_get all p ≡ Some s → s.done ≡ Memory → ⊥
+    pub none_ran_out : AreNumbers streams → (p : ℕ) (s : Joined S) → slice_get all p ≡ Some s → s.done ≡ Memory → ⊥
     none_ran_out numbers p s es is =
         let low = slice_get_within all p s es in
         let t = item_at streams p (omega (arith, low, all_count)) in
@@ -224,7 +219,7 @@ module _ {S M : Type 0} (left_of : S → Option (List ℕ)) (faults_of : S → �
         did.memory (subst (λ (x : _). 1 ≤ size_of x.format) (sym new.shape) (numbers p t.0 t.1)) (sym settled.done ∙ is)
 
     module _ (now : Option (List ℕ)) (over : HaveEnded all) (w : Written) (f : IsFinished streams base now h.batches w) where
-      each_fed : (p : ℕ) (t : StreamDoc) (d : FeedSource S) (s : Settled S) → slice_get streams p ≡ Some t → slice_get feeds p ≡ Some d → slice_get all p ≡ Some s
+      each_fed : (p : ℕ) (t : StreamDoc) (d : FeedSource S) (s : Joined S) → slice_get streams p ≡ Some t → slice_get feeds p ≡ Some d → slice_get all p ≡ Some s
           → IsFed left_of faults_of mark_of ring h.batches f.chunks p (fed_of t d s) × (report_in s ≡ report_of f.chunks (fed_of t d s))
       each_fed p t d s et ed es =
           let low = slice_get_within all p s es in
@@ -240,7 +235,7 @@ module _ {S M : Type 0} (left_of : S → Option (List ℕ)) (faults_of : S → �
           )
 
       -- the file was finished
-      pub recorded_is : IsRecorded left_of faults_of mark_of Threads ring batch streams feeds base now (map report_in all) w.bytes w.chunks (map (λ (s : Settled S). s.reader.source) all)
+      pub recorded_is : IsRecorded left_of faults_of mark_of Threads ring batch streams feeds base now (map report_in all) w.bytes w.chunks (map (λ (s : Joined S). s.reader.source) all)
       recorded_is = record {
         fed = all_fed streams feeds all;
         chunks = f.chunks;

@@ -1,8 +1,8 @@
 -- Entries of a lane, as they are taken one after the other and go to the writer.
-use Rattle.std.proofs.Common.{◌≡◌, ℕ, ◌+◌, ◌≤◌, ◌==◌, inl, inr, false, List, [], ◌∷◌, ◌++◌, length, map, if◌then◌else◌, Option, None, refl, sym, ap, ◌∙◌, subst, append_assoc, arith, length-append}
+use Rattle.std.proofs.Common.{◌≡◌, ◌≢◌, ℕ, ◌+◌, ◌≤◌, inl, inr, false, List, [], ◌∷◌, ◌++◌, length, map, if◌then◌else◌, Option, None, refl, sym, ap, ◌∙◌, subst, append_assoc, arith, length-append}
 use Rattle.std.specs.Prelude.{slice_get, min}
 use Rattle.std.specs.List.{AllByRecursion}
-use Rattle.std.proofs.lemmas.Bool.{eq-eqb}
+use Rattle.std.proofs.lemmas.Bool.{eq-eqb, ne_eqb}
 use Rattle.std.proofs.lemmas.Bool.Decides.{nat_tests}
 use Rattle.std.proofs.lemmas.List.{append-nil, map-append, length-map}
 use Rattle.xdf_model.specs.Sample.{Sample}
@@ -15,8 +15,8 @@ use Rattle.record_writer.specs.declared.place.Place.{Place}
 use Rattle.record_writer.specs.Desk.{DeskState, next_in, next_at, shapes_of}
 use Rattle.record_writer.specs.Standing.{StandsFor, closed}
 use Rattle.run_model.specs.Rings.{ring_entry}
-use Rattle.run_model.specs.Putting.{IsOnePut}
-use Rattle.run_model.proofs.Batches.{open_of, open_more, closed_all}
+use Rattle.run_model.specs.Putting.{IsOnePut, IsCutAt}
+use Rattle.run_model.proofs.Batches.{open_of, open_more, closed_all, entries_append}
 use Rattle.thread_run.specs.Lanes.{AreGathered, AreShortOf, AreWritten, Counts}
 
 -- ---- the position behind the last entry
@@ -35,6 +35,13 @@ entries_here place (e ∷ more) =
 short_one : (batch place : ℕ) (put : List Entry) → length put ≤ batch → AreShortOf batch place (batch_of place put)
 short_one batch place [] le = tt
 short_one batch place (e ∷ more) le = ((refl, le), tt)
+
+-- batches of a place have nothing of another
+pub other_none : (batch place p : ℕ) (bs : List Batch) → p ≢ place → AreShortOf batch place bs → entries_at p bs ≡ []
+other_none batch place p [] ne short = refl
+other_none batch place p (b ∷ bs) ne short =
+    let test = ne_eqb b.place p (λ h. ne (sym h ∙ short.0.0)) in
+    rw test (other_none batch place p bs ne short.1)
 
 -- ---- the batch
 
@@ -125,12 +132,6 @@ counted_more place n old new first now before after base_held held d counts is =
 
 -- ---- one batch behind others
 
-pub entries_append : (place : ℕ) (xs ys : List Batch) → entries_at place (xs ++ ys) ≡ entries_at place xs ++ entries_at place ys
-entries_append place [] ys = refl
-entries_append place (b ∷ xs) ys =
-    let own : List Entry = if b.place == place then b.entries else [] in
-    ap (λ (l : List Entry). own ++ l) (entries_append place xs ys) ∙ sym (append_assoc own (entries_at place xs) (entries_at place ys))
-
 pub all_append : {A : Type 0} (P : A → Type 0) (xs ys : List A) → AllByRecursion P xs → AllByRecursion P ys → AllByRecursion P (xs ++ ys)
 all_append P [] ys a b = b
 all_append P (x ∷ xs) ys a b = (a.0, all_append P xs ys a.1 b)
@@ -164,3 +165,35 @@ written_more batch place first now next before mid after base_held held_mid held
   closed = b.closed;
   whole = b.whole;
 }
+
+-- ---- where the writer failed
+
+-- behind batches of the place that were all of what had been taken before
+pub cut_over : (batch place : ℕ) (first mid now : List (RingEntry Sample)) (bs batches some : List Batch) → AreShortOf batch place bs → map ring_entry mid ≡ map ring_entry first ++ entries_at place bs
+    → IsCutAt place mid now (batches ++ bs) some → IsCutAt place first now batches some
+cut_over batch place first mid now bs batches some short taken k =
+    let put = entries_at place bs in
+    record {
+      put = put ++ k.put;
+      left = k.left;
+      taken = k.taken ∙ ap (λ (l : List Entry). l ++ (k.put ++ k.left)) taken ∙ append_assoc (map ring_entry first) put (k.put ++ k.left) ∙ ap (λ (l : List Entry). map ring_entry first ++ l) (sym (append_assoc put k.put k.left));
+      here = k.here ∙ ap (λ (l : List Entry). l ++ k.put) (entries_append place batches bs) ∙ append_assoc (entries_at place batches) put k.put;
+      others = λ p ne. k.others p ne ∙ entries_append p batches bs ∙ ap (λ (l : List Entry). entries_at p batches ++ l) (other_none batch place p bs ne short) ∙ append-nil (entries_at p batches);
+    }
+
+-- so it is where these are the open batch
+pub cut_open : (place : ℕ) (first mid now : List (RingEntry Sample)) (put : List Entry) (batches some : List Batch) → map ring_entry mid ≡ map ring_entry first ++ put
+    → IsCutAt place mid now (closed batches (open_of place put)) some → IsCutAt place first now batches some
+cut_open place first mid now put batches some taken k =
+    cut_over (length put) place first mid now (batch_of place put) batches some (short_one (length put) place put (omega arith)) (taken ∙ ap (λ (l : List Entry). map ring_entry first ++ l) (sym (entries_here place put)))
+    (subst (λ (bs : List Batch). IsCutAt place mid now bs some) (closed_all place batches put) k)
+
+-- all that was taken is in the batches
+pub cut_all : (place : ℕ) (first now : List (RingEntry Sample)) (put : List Entry) (batches : List Batch) → map ring_entry now ≡ map ring_entry first ++ put → IsCutAt place first now batches (closed batches (open_of place put))
+cut_all place first now put batches taken = cut_open place first now now put batches (closed batches (open_of place put)) taken (record {
+  put = [];
+  left = [];
+  taken = sym (append-nil (map ring_entry now));
+  here = sym (append-nil (entries_at place (closed batches (open_of place put))));
+  others = λ p ne. refl;
+})

@@ -5,3 +5,4 @@ pub mod Going
 pub mod Settling
 pub mod Starting
 pub mod Finishing
+pub mod Stopping

@@ -18,8 +18,9 @@ use Rattle.feed_lane.specs.Lanes.{Lane}
 use Rattle.thread_run.specs.declared.work.Work.{Work}
 use Rattle.thread_run.specs.declared.lane.CountedHead.{CountedHead}
 use Rattle.thread_run.specs.Work.{IsFresh}
-use Rattle.thread_run.specs.Rounds.{AreDrawn, AreOfNumbers, IsDrawn}
+use Rattle.thread_run.specs.Rounds.{AreDrawn, AreOfNumbers, Given, IsDrawn, given_by}
 use Rattle.thread_run.specs.Opening.{IsNewLane, ThreadsView, AreThreadsFor}
+use Rattle.thread_run.proofs.Going.{at_map}
 
 next_new : (streams : List StreamDoc) (p : ℕ) → next_in (slice_get (map new_place streams) p) ≡ 0
 next_new [] p = refl
@@ -43,6 +44,7 @@ module _ {S : Type 0} (ring batch : ℕ) (streams : List StreamDoc) (feeds : Lis
         counted = omega (arith, n.counted);
         none = n.puts;
         shape = n.shape ∙ sym n.reader_shape;
+        unseen = (k.halt.each p w e).1;
       }
 
   pub lanes_meet : (p : ℕ) (w : Work S) (h : CountedHead) → slice_get v.works p ≡ Some w → slice_get v.heads p ≡ Some h → w.tail.lane ≡ h.head.lane
@@ -62,12 +64,13 @@ module _ {S : Type 0} (ring batch : ℕ) (streams : List StreamDoc) (feeds : Lis
       let n = k.each p s.0 d.0 w.0 h s.1 d.1 w.1 f in
       (s.0, s.1, ap (λ (l : Lane). l.shape) n.lane ∙ n.shape, n.taken, n.kept)
 
-  pub numbers_of : AreNumbers streams → AreOfNumbers v.heads
-  numbers_of numbers p h f =
-      let a = head_at p h f in
-      subst (λ (x : Shape). 1 ≤ size_of x.format) (sym a.2) (numbers p a.0 a.1)
+  pub numbers_of : AreNumbers streams → AreOfNumbers (map given_by v.heads)
+  numbers_of numbers p lane f =
+      let h = at_map given_by v.heads p lane f in
+      let a = head_at p h.0 h.1 in
+      subst (λ (x : Given). 1 ≤ size_of x.shape.format) h.2 (subst (λ (x : Shape). 1 ≤ size_of x.format) (sym a.2) (numbers p a.0 a.1))
 
-  drawn_at : (p : ℕ) (h : CountedHead) → slice_get v.heads p ≡ Some h → IsDrawn desk [] p h
+  drawn_at : (p : ℕ) (h : CountedHead) → slice_get v.heads p ≡ Some h → IsDrawn desk [] p (given_by h)
   drawn_at p h f =
       let a = head_at p h f in
       let none : next_at desk p ≡ 0 = ap (λ (places : List Place). next_in (slice_get places p)) k.places ∙ next_new streams p in
@@ -79,14 +82,14 @@ module _ {S : Type 0} (ring batch : ℕ) (streams : List StreamDoc) (feeds : Lis
       }
 
   -- the headers were written
-  pub opened_drawn : (base held : Option (List ℕ)) → StandsFor streams base held desk [] None → AreDrawn batch streams base held desk [] v.heads
+  pub opened_drawn : (base held : Option (List ℕ)) → StandsFor streams base held desk [] None → AreDrawn batch streams base held desk [] (map given_by v.heads)
   opened_drawn base held st = record {
     written = st;
     short = tt;
-    count = let long = ap length k.places in omega (arith, k.head_count, long, length-map streams new_place);
+    count = let long = ap length k.places in omega (arith, k.head_count, long, length-map streams new_place, length-map v.heads given_by);
     closed = k.ready.count;
     whole = k.ready.whole;
-    each = drawn_at;
+    each = λ p lane f. let h = at_map given_by v.heads p lane f in subst (λ (x : Given). IsDrawn desk [] p x) h.2 (drawn_at p h.0 h.1);
   }
 
 -- ---- opening
@@ -110,3 +113,7 @@ opened_next {S = S} ring n streams feeds ws hs s d w h work_count head_count eac
         (subst (λ (x : Work S). IsNewLane ring s d x z) m.1 (subst (λ (x : CountedHead). IsNewLane ring s d w x) k.1 new)))
   ]
 ]
+
+-- a fact of each of a list, and of one more
+pub each_more : {A : Type 0} (P : A → Type 0) (xs : List A) (x : A) → ((p : ℕ) (y : A) → slice_get xs p ≡ Some y → P y) → P x → (p : ℕ) (y : A) → slice_get (xs ++ x ∷ []) p ≡ Some y → P y
+each_more {A = A} P xs x each here p y e = elim (push_cases xs x y p e) [ inl k ↦ each p y k.1 | inr k ↦ subst P k.1 here ]

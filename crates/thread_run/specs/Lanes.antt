@@ -49,4 +49,3 @@ pub record IsSameLane (before after : LastView) : Type 0 where
   pub capacity : after.capacity ≡ before.capacity
   pub shape : after.shape ≡ before.shape
   pub puts : after.state.puts ≡ before.state.puts
-  pub dropped : after.state.dropped ≡ before.state.dropped

@@ -1,5 +1,6 @@
 -- Feeds that are to be recorded by threads: what they were made of, before anything is read. This project's own.
 use Rattle.std.specs.Prelude.{◌≡◌, ℕ, ◌≤◌, false, List, [], length, map, slice_get, Some}
+use Rattle.halt_word.specs.Ends.{RaiserView, LookerListView}
 use Rattle.reading_model.specs.Outlook.{How}
 use Rattle.feed_samples.specs.Inlet.{outlook}
 use Rattle.recording_model.specs.declared.stream.StreamDoc.{StreamDoc}
@@ -27,10 +28,20 @@ pub record IsNewLane {S : Type 0} (ring : ℕ) (stream : StreamDoc) (feed : Feed
   pub taken : head.head.taken ≡ []
   pub kept : head.kept ≡ 0
 
--- the feeds, as contracts see them: what each inlet is to do, and the other ends of the lanes
+-- the word isn't raised, each inlet has a looker of it that has seen nothing, and the list has room for them all
+pub record IsNewHalt {S : Type 0} (works : List (Work S)) (raiser : RaiserView) (lookers : LookerListView) : Type 0 where
+  pub down : raiser.raised ≡ false
+  pub same : lookers.word ≡ raiser.word
+  pub none : lookers.lookers ≡ []
+  pub room : length works ≤ lookers.room
+  pub each : (place : ℕ) (work : Work S) → slice_get works place ≡ Some work → (work.looker.word ≡ raiser.word) × (work.looker.saw ≡ false)
+
+-- the feeds, as contracts see them: what each inlet is to do, the other ends of the lanes, and the halt word
 pub record ThreadsView (S : Type 0) : Type 0 where
   pub works : List (Work S)
   pub heads : List CountedHead
+  pub raiser : RaiserView
+  pub lookers : LookerListView
 
 -- these feeds are to be recorded as these streams, with rings and batches of these sizes, by a writer that keeps this
 pub record AreThreadsFor {S : Type 0} (ring batch : ℕ) (streams : List StreamDoc) (feeds : List (FeedSource S)) (desk : DeskState) (v : ThreadsView S) : Type 0 where
@@ -43,3 +54,4 @@ pub record AreThreadsFor {S : Type 0} (ring batch : ℕ) (streams : List StreamD
   pub head_count : length v.heads ≡ length streams
   pub each : (place : ℕ) (stream : StreamDoc) (feed : FeedSource S) (work : Work S) (head : CountedHead) → slice_get streams place ≡ Some stream → slice_get feeds place ≡ Some feed
       → slice_get v.works place ≡ Some work → slice_get v.heads place ≡ Some head → IsNewLane ring stream feed work head
+  pub halt : IsNewHalt v.works v.raiser v.lookers

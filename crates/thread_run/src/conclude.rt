@@ -10,11 +10,11 @@ ghost use Rattle.run_model.specs.declared.feed.FeedSource.{FeedSource as FeedVal
 ghost use Rattle.run_model.specs.Fitting.{AreNumbers};
 ghost use Rattle.run_model.specs.Outcomes.{IsDone, IsStopped};
 ghost use Rattle.thread_run.specs.Opening.{AreThreadsFor, ThreadsView};
-ghost use Rattle.thread_run.specs.Concluded.{HaveEnded, HaveSettled, report_in};
-ghost use Rattle.thread_run.specs.declared.settle.Settled.{Settled as SettledValue};
+ghost use Rattle.thread_run.specs.Concluded.{HaveEnded, HaveSettled, NoneHalted, report_in};
+ghost use Rattle.thread_run.specs.declared.settle.Joined.{Joined as JoinedValue};
 
 use crate::lane::CountedLast;
-use crate::settle::Settled;
+use crate::settle::Joined;
 use crate::work::InletDone;
 use feed_samples::FeedEnd;
 use rec_base::{Sink, Source};
@@ -23,8 +23,9 @@ use run_model::{FeedReport, Outcome, ReportList, SourceList};
 use std::sync::Wait;
 
 /// Whether an inlet had no memory for a sample.
-fn ran_out<S: Source>(settled: &[Settled<S>]) -> bool
-    ensures some { IsTrue result → (p : ℕ) × (s : SettledValue S) × (slice_get settled.now p ≡ Some s) × (s.done ≡ InletDone.Memory) }
+fn ran_out<S: Source>(settled: &[Joined<S>]) -> bool
+    requires going { NoneHalted settled.now }
+    ensures some { IsTrue result → (p : ℕ) × (s : JoinedValue S) × (slice_get settled.now p ≡ Some s) × (s.done ≡ InletDone.Memory) }
     ensures none { result ≡ false → HaveEnded settled.now }
 {
     for one in settled {
@@ -42,12 +43,12 @@ fn end_of(done: InletDone) -> FeedEnd
 {
     match done {
         InletDone::Ended(end) => end,
-        InletDone::Memory => unreachable!(),
+        InletDone::Memory | InletDone::Halted => unreachable!(),
     }
 }
 
 // What became of a feed.
-fn report_on<S: Source>(one: &Settled<S>) -> FeedReport
+fn report_on<S: Source>(one: &Joined<S>) -> FeedReport
     requires { (e : EndValue) × (one.now.done ≡ InletDone.Ended e) }
     ensures { result ≡ report_in one.now }
 {
@@ -62,7 +63,7 @@ fn report_on<S: Source>(one: &Settled<S>) -> FeedReport
 }
 
 // What became of the feeds, into room that was made before.
-fn report_all<S: Source>(settled: &[Settled<S>], reports: Vec<FeedReport>) -> Vec<FeedReport>
+fn report_all<S: Source>(settled: &[Joined<S>], reports: Vec<FeedReport>) -> Vec<FeedReport>
     requires ended { HaveEnded settled.now }
     requires empty { reports.items ≡ [] }
     requires room { length settled.now ≤ vec_capacity reports }
@@ -76,10 +77,10 @@ fn report_all<S: Source>(settled: &[Settled<S>], reports: Vec<FeedReport>) -> Ve
 }
 
 // Ends a lane, and gives the source of its feed back, and how many of the lane's blocks are home.
-fn close_one<S: Source + Drop, R: Wait>(rt: &R, one: Settled<S>) -> (S, u64)
+fn close_one<S: Source + Drop, R: Wait>(rt: &R, one: Joined<S>) -> (S, u64)
     ensures { result.0 ≡ one.reader.source }
 {
-    let Settled { reader, lane, .. } = one;
+    let Joined { reader, lane, .. } = one;
     let CountedLast { last, .. } = lane;
     (reader.into_source(), last.close(rt))
 }
@@ -88,7 +89,7 @@ fn close_one<S: Source + Drop, R: Wait>(rt: &R, one: Settled<S>) -> (S, u64)
 // home in all.
 fn close_all<S: Source + Drop, R: Wait>(
     rt: &R,
-    settled: Vec<Settled<S>>,
+    settled: Vec<Joined<S>>,
     sources: Vec<S>,
 ) -> (Vec<S>, u64)
     requires empty { sources.items ≡ [] }
@@ -118,11 +119,12 @@ pub(crate) fn let_go<K: Sink>(writer: Writer<'_, K>)
 /// no memory, the file is left as it is.
 pub(crate) fn conclude<S: Source + Drop, K: Sink, R: Wait>(
     rt: &R,
-    settled: Vec<Settled<S>>,
+    settled: Vec<Joined<S>>,
     writer: Writer<'_, K>,
     reports: Vec<FeedReport>,
     sources: Vec<S>,
 ) -> (Outcome<S>, u64)
+    requires going { NoneHalted settled.items }
     requires closed { writer.room.desk.count ≡ 0 }
     requires whole { writer.room.desk.broken ≡ false }
     requires empty { (reports.items ≡ []) × (sources.items ≡ []) }
@@ -131,9 +133,10 @@ pub(crate) fn conclude<S: Source + Drop, K: Sink, R: Wait>(
         → AreThreadsFor ring batch streams feeds desk v
         → HaveSettled S.left S.faults S.mark batch streams base (K.held writer.entry.sink.now) writer.entry.room.desk v.works settled.items
         → IsDone S.left S.faults S.mark ByThreads ring batch streams feeds base (K.held writer.exit.0.now) result.0 }
-    ensures stopped { (batch : ℕ) (streams : List StreamValue) (base : Option (List ℕ)) (v : ThreadsView S)
+    ensures stopped { (ring batch : ℕ) (streams : List StreamValue) (feeds : List (FeedValue S)) (base : Option (List ℕ)) (desk : DeskState) (v : ThreadsView S)
+        → AreThreadsFor ring batch streams feeds desk v
         → HaveSettled S.left S.faults S.mark batch streams base (K.held writer.entry.sink.now) writer.entry.room.desk v.works settled.items
-        → IsStopped streams base (K.held writer.exit.0.now) result.0 }
+        → IsStopped S.left streams feeds base (K.held writer.exit.0.now) result.0 }
     ensures memory { (ring batch : ℕ) (streams : List StreamValue) (feeds : List (FeedValue S)) (base : Option (List ℕ)) (desk : DeskState) (v : ThreadsView S)
         → AreThreadsFor ring batch streams feeds desk v
         → HaveSettled S.left S.faults S.mark batch streams base (K.held writer.entry.sink.now) writer.entry.room.desk v.works settled.items

@@ -9,6 +9,7 @@ ghost use Rattle.recording_model.specs.Batch.{Batch};
 ghost use Rattle.loss_model.specs.Loss.{behind_last};
 ghost use Rattle.record_writer.specs.Desk.{next_at, shapes_of};
 ghost use Rattle.record_writer.specs.Standing.{StandsFor, IsCut};
+ghost use Rattle.run_model.specs.Putting.{IsCutAt};
 ghost use Rattle.run_model.specs.Rings.{ring_entry};
 ghost use Rattle.thread_run.specs.Lanes.{AreGathered, AreWritten, Counts, IsSameLane};
 
@@ -49,7 +50,7 @@ fn gather<K: Sink, R: Wait>(
     ensures gathered { IfOk result (λ n. (n ≤ batch) × AreGathered place n head.old.taken head.new.taken writer.old.room.desk writer.new.room.desk (K.held writer.old.sink.now) (K.held writer.new.sink.now)) }
     ensures cut { (streams : List StreamValue) (base : Option (List ℕ)) (batches : List Batch)
         → StandsFor streams base (K.held writer.old.sink.now) writer.old.room.desk batches None
-        → OnErr result ((some : List Batch) × IsCut streams base (K.held writer.new.sink.now) some) }
+        → OnErr result ((some : List Batch) × IsCut streams base (K.held writer.new.sink.now) some × IsCutAt place head.old.taken head.new.taken batches some) }
     ensures memory { IsErrOf result WriterFault.Memory → 1 ≤ size_of head.old.lane.shape.format → ⊥ }
     ensures cause { IsErrOf result WriterFault.WriteFault → Rose (K.write_faults writer.old.sink.now) (K.write_faults writer.new.sink.now) }
     ensures later { K.write_faults writer.old.sink.now ≤ K.write_faults writer.new.sink.now }
@@ -87,7 +88,7 @@ pub(crate) fn write_some<K: Sink, R: Wait>(
     ensures wrote { OnOk result (AreWritten batch place lane.old.head.taken lane.new.head.taken writer.old.room.desk writer.new.room.desk (K.held writer.old.sink.now) (K.held writer.new.sink.now)) }
     ensures cut { (streams : List StreamValue) (base : Option (List ℕ)) (batches : List Batch)
         → StandsFor streams base (K.held writer.old.sink.now) writer.old.room.desk batches None
-        → OnErr result ((some : List Batch) × IsCut streams base (K.held writer.new.sink.now) some) }
+        → OnErr result ((some : List Batch) × IsCut streams base (K.held writer.new.sink.now) some × IsCutAt place lane.old.head.taken lane.new.head.taken batches some) }
     ensures memory { IsErrOf result WriterFault.Memory → 1 ≤ size_of lane.old.head.lane.shape.format → ⊥ }
     ensures cause { IsErrOf result WriterFault.WriteFault → Rose (K.write_faults writer.old.sink.now) (K.write_faults writer.new.sink.now) }
     ensures later { K.write_faults writer.old.sink.now ≤ K.write_faults writer.new.sink.now }
@@ -115,13 +116,14 @@ fn gather_rest<K: Sink, R: Wait>(
     requires shape { slice_get (shapes_of writer.old.room.desk) place ≡ Some last.old.shape }
     requires reached { IsReached last.old.capacity last.old.state }
     ensures same_reference { writer.new.sink.ghost_name ≡ writer.old.sink.ghost_name }
-    ensures same { OnOk result (IsSameLane last.old last.new) }
+    ensures same { IsSameLane last.old last.new }
+    ensures dropped { OnOk result (last.new.state.dropped ≡ last.old.state.dropped) }
     ensures reached { IsReached last.new.capacity last.new.state }
     ensures empty { IfOk result (λ n. n < batch → last.new.state.queue ≡ []) }
     ensures gathered { IfOk result (λ n. (n ≤ batch) × AreGathered place n last.old.state.taken last.new.state.taken writer.old.room.desk writer.new.room.desk (K.held writer.old.sink.now) (K.held writer.new.sink.now)) }
     ensures cut { (streams : List StreamValue) (base : Option (List ℕ)) (batches : List Batch)
         → StandsFor streams base (K.held writer.old.sink.now) writer.old.room.desk batches None
-        → OnErr result ((some : List Batch) × IsCut streams base (K.held writer.new.sink.now) some) }
+        → OnErr result ((some : List Batch) × IsCut streams base (K.held writer.new.sink.now) some × IsCutAt place last.old.state.taken last.new.state.taken batches some) }
     ensures memory { IsErrOf result WriterFault.Memory → 1 ≤ size_of last.old.shape.format → ⊥ }
     ensures cause { IsErrOf result WriterFault.WriteFault → Rose (K.write_faults writer.old.sink.now) (K.write_faults writer.new.sink.now) }
     ensures later { K.write_faults writer.old.sink.now ≤ K.write_faults writer.new.sink.now }
@@ -151,14 +153,15 @@ fn write_more<K: Sink, R: Wait>(
     requires reached { IsReached lane.old.last.capacity lane.old.last.state }
     requires counted { Counts lane.old.kept lane.old.last.state.taken }
     ensures same_reference { writer.new.sink.ghost_name ≡ writer.old.sink.ghost_name }
-    ensures same { OnOk result (IsSameLane lane.old.last lane.new.last) }
-    ensures reached { OnOk result (IsReached lane.new.last.capacity lane.new.last.state) }
+    ensures same { IsSameLane lane.old.last lane.new.last }
+    ensures dropped { OnOk result (lane.new.last.state.dropped ≡ lane.old.last.state.dropped) }
+    ensures reached { IsReached lane.new.last.capacity lane.new.last.state }
     ensures counted { OnOk result (Counts lane.new.kept lane.new.last.state.taken) }
     ensures empty { IfOk result (λ all. IsTrue all → lane.new.last.state.queue ≡ []) }
     ensures wrote { OnOk result (AreWritten batch place lane.old.last.state.taken lane.new.last.state.taken writer.old.room.desk writer.new.room.desk (K.held writer.old.sink.now) (K.held writer.new.sink.now)) }
     ensures cut { (streams : List StreamValue) (base : Option (List ℕ)) (batches : List Batch)
         → StandsFor streams base (K.held writer.old.sink.now) writer.old.room.desk batches None
-        → OnErr result ((some : List Batch) × IsCut streams base (K.held writer.new.sink.now) some) }
+        → OnErr result ((some : List Batch) × IsCut streams base (K.held writer.new.sink.now) some × IsCutAt place lane.old.last.state.taken lane.new.last.state.taken batches some) }
     ensures memory { IsErrOf result WriterFault.Memory → 1 ≤ size_of lane.old.last.shape.format → ⊥ }
     ensures cause { IsErrOf result WriterFault.WriteFault → Rose (K.write_faults writer.old.sink.now) (K.write_faults writer.new.sink.now) }
     ensures later { K.write_faults writer.old.sink.now ≤ K.write_faults writer.new.sink.now }
@@ -189,14 +192,15 @@ pub(crate) fn write_rest<K: Sink, R: Wait>(
     requires reached { IsReached lane.old.last.capacity lane.old.last.state }
     requires counted { Counts lane.old.kept lane.old.last.state.taken }
     ensures same_reference { writer.new.sink.ghost_name ≡ writer.old.sink.ghost_name }
-    ensures same { OnOk result (IsSameLane lane.old.last lane.new.last) }
-    ensures reached { OnOk result (IsReached lane.new.last.capacity lane.new.last.state) }
+    ensures same { IsSameLane lane.old.last lane.new.last }
+    ensures dropped { OnOk result (lane.new.last.state.dropped ≡ lane.old.last.state.dropped) }
+    ensures reached { IsReached lane.new.last.capacity lane.new.last.state }
     ensures counted { OnOk result (Counts lane.new.kept lane.new.last.state.taken) }
     ensures empty { OnOk result (lane.new.last.state.queue ≡ []) }
     ensures wrote { OnOk result (AreWritten batch place lane.old.last.state.taken lane.new.last.state.taken writer.old.room.desk writer.new.room.desk (K.held writer.old.sink.now) (K.held writer.new.sink.now)) }
     ensures cut { (streams : List StreamValue) (base : Option (List ℕ)) (batches : List Batch)
         → StandsFor streams base (K.held writer.old.sink.now) writer.old.room.desk batches None
-        → OnErr result ((some : List Batch) × IsCut streams base (K.held writer.new.sink.now) some) }
+        → OnErr result ((some : List Batch) × IsCut streams base (K.held writer.new.sink.now) some × IsCutAt place lane.old.last.state.taken lane.new.last.state.taken batches some) }
     ensures memory { IsErrOf result WriterFault.Memory → 1 ≤ size_of lane.old.last.shape.format → ⊥ }
     ensures cause { IsErrOf result WriterFault.WriteFault → Rose (K.write_faults writer.old.sink.now) (K.write_faults writer.new.sink.now) }
     ensures later { K.write_faults writer.old.sink.now ≤ K.write_faults writer.new.sink.now }

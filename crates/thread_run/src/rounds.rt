@@ -1,11 +1,10 @@
 //! The writer's rounds over the lanes.
 
-ghost use Rattle.std.specs.Prelude.{◌≡◌, ◌≤◌, ◌<◌, ℕ, List, length, Option, OnOk, OnErr, IsErrOf};
+ghost use Rattle.std.specs.Prelude.{◌≡◌, ◌≤◌, ◌<◌, ℕ, List, length, map, Option, OnOk, OnErr, IsErrOf};
 ghost use Rattle.rec_base.specs.Causes.{Rose};
 ghost use Rattle.recording_model.specs.declared.stream.StreamDoc.{StreamDoc as StreamValue};
 ghost use Rattle.recording_model.specs.Batch.{Batch};
-ghost use Rattle.record_writer.specs.Standing.{IsCut};
-ghost use Rattle.thread_run.specs.Rounds.{AreDrawn, AreOfNumbers, lanes_of};
+ghost use Rattle.thread_run.specs.Rounds.{AreDrawn, AreOfNumbers, IsCutOf, given_by, lanes_of};
 
 use crate::lane::{CountedHead, write_some};
 use rec_base::Sink;
@@ -27,14 +26,14 @@ pub(crate) fn go_round<K: Sink, R: Wait>(
     writer: &mut Writer<'_, K>,
     batch: u64,
 ) -> Result<u64, WriterFault>
-    requires drawn { (streams : List StreamValue) × (base : Option (List ℕ)) × (batches : List Batch) × AreDrawn batch streams base (K.held writer.old.sink.now) writer.old.room.desk batches heads.old }
+    requires drawn { (streams : List StreamValue) × (base : Option (List ℕ)) × (batches : List Batch) × AreDrawn batch streams base (K.held writer.old.sink.now) writer.old.room.desk batches (map given_by heads.old) }
     ensures same_reference { writer.new.sink.ghost_name ≡ writer.old.sink.ghost_name }
     ensures lanes { lanes_of heads.new ≡ lanes_of heads.old }
-    ensures drawn { (streams : List StreamValue) (base : Option (List ℕ)) (batches : List Batch) → AreDrawn batch streams base (K.held writer.old.sink.now) writer.old.room.desk batches heads.old
-        → OnOk result ((more : List Batch) × AreDrawn batch streams base (K.held writer.new.sink.now) writer.new.room.desk more heads.new) }
-    ensures cut { (streams : List StreamValue) (base : Option (List ℕ)) (batches : List Batch) → AreDrawn batch streams base (K.held writer.old.sink.now) writer.old.room.desk batches heads.old
-        → OnErr result ((some : List Batch) × IsCut streams base (K.held writer.new.sink.now) some) }
-    ensures memory { IsErrOf result WriterFault.Memory → AreOfNumbers heads.old → ⊥ }
+    ensures drawn { (streams : List StreamValue) (base : Option (List ℕ)) (batches : List Batch) → AreDrawn batch streams base (K.held writer.old.sink.now) writer.old.room.desk batches (map given_by heads.old)
+        → OnOk result ((more : List Batch) × AreDrawn batch streams base (K.held writer.new.sink.now) writer.new.room.desk more (map given_by heads.new)) }
+    ensures cut { (streams : List StreamValue) (base : Option (List ℕ)) (batches : List Batch) → AreDrawn batch streams base (K.held writer.old.sink.now) writer.old.room.desk batches (map given_by heads.old)
+        → OnErr result (IsCutOf streams base (K.held writer.new.sink.now) (map given_by heads.new)) }
+    ensures memory { IsErrOf result WriterFault.Memory → AreOfNumbers (map given_by heads.old) → ⊥ }
     ensures cause { IsErrOf result WriterFault.WriteFault → Rose (K.write_faults writer.old.sink.now) (K.write_faults writer.new.sink.now) }
     ensures later { K.write_faults writer.old.sink.now ≤ K.write_faults writer.new.sink.now }
     ensures rest { K.rest writer.new.sink.now ≡ K.rest writer.old.sink.now }
@@ -90,14 +89,14 @@ pub(crate) fn go_until<K: Sink, R: Wait + Clock>(
     batch: u64,
     plenty: u64,
 ) -> Result<(), WriterFault>
-    requires drawn { (streams : List StreamValue) × (base : Option (List ℕ)) × (batches : List Batch) × AreDrawn batch streams base (K.held writer.old.sink.now) writer.old.room.desk batches heads.old }
+    requires drawn { (streams : List StreamValue) × (base : Option (List ℕ)) × (batches : List Batch) × AreDrawn batch streams base (K.held writer.old.sink.now) writer.old.room.desk batches (map given_by heads.old) }
     ensures same_reference { writer.new.sink.ghost_name ≡ writer.old.sink.ghost_name }
     ensures lanes { lanes_of heads.new ≡ lanes_of heads.old }
-    ensures drawn { (streams : List StreamValue) (base : Option (List ℕ)) (batches : List Batch) → AreDrawn batch streams base (K.held writer.old.sink.now) writer.old.room.desk batches heads.old
-        → OnOk result ((more : List Batch) × AreDrawn batch streams base (K.held writer.new.sink.now) writer.new.room.desk more heads.new) }
-    ensures cut { (streams : List StreamValue) (base : Option (List ℕ)) (batches : List Batch) → AreDrawn batch streams base (K.held writer.old.sink.now) writer.old.room.desk batches heads.old
-        → OnErr result ((some : List Batch) × IsCut streams base (K.held writer.new.sink.now) some) }
-    ensures memory { IsErrOf result WriterFault.Memory → AreOfNumbers heads.old → ⊥ }
+    ensures drawn { (streams : List StreamValue) (base : Option (List ℕ)) (batches : List Batch) → AreDrawn batch streams base (K.held writer.old.sink.now) writer.old.room.desk batches (map given_by heads.old)
+        → OnOk result ((more : List Batch) × AreDrawn batch streams base (K.held writer.new.sink.now) writer.new.room.desk more (map given_by heads.new)) }
+    ensures cut { (streams : List StreamValue) (base : Option (List ℕ)) (batches : List Batch) → AreDrawn batch streams base (K.held writer.old.sink.now) writer.old.room.desk batches (map given_by heads.old)
+        → OnErr result (IsCutOf streams base (K.held writer.new.sink.now) (map given_by heads.new)) }
+    ensures memory { IsErrOf result WriterFault.Memory → AreOfNumbers (map given_by heads.old) → ⊥ }
     ensures cause { IsErrOf result WriterFault.WriteFault → Rose (K.write_faults writer.old.sink.now) (K.write_faults writer.new.sink.now) }
     ensures later { K.write_faults writer.old.sink.now ≤ K.write_faults writer.new.sink.now }
     ensures rest { K.rest writer.new.sink.now ≡ K.rest writer.old.sink.now }

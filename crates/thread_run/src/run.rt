@@ -1,26 +1,26 @@
 //! All feeds of a recording, in threads of one scope.
 
-ghost use Rattle.std.specs.Prelude.{◌≡◌, ◌≤◌, ℕ, List, [], length, slice_get, Some, Option, vec_capacity, false, IfOk, OnOk, OnErr, IsErrOf};
+ghost use Rattle.std.specs.Prelude.{◌≡◌, ◌≤◌, ℕ, List, [], true, length, map, slice_get, Some, Option, vec_capacity, false, IfOk, OnOk, OnErr, IsErrOf};
 ghost use Rattle.rec_base.specs.Causes.{Rose};
 ghost use Rattle.recording_model.specs.declared.stream.StreamDoc.{StreamDoc as StreamValue};
 ghost use Rattle.recording_model.specs.Batch.{Batch};
-ghost use Rattle.record_writer.specs.Standing.{IsCut};
 ghost use Rattle.run_model.specs.declared.feed.FeedSource.{FeedSource as FeedValue};
 ghost use Rattle.run_model.specs.Fitting.{AreNumbers};
 ghost use Rattle.run_model.specs.Outcomes.{IsCutOff};
 ghost use Rattle.thread_run.specs.Work.{IsFresh};
-ghost use Rattle.thread_run.specs.Rounds.{AreDrawn, AreOfNumbers};
-ghost use Rattle.thread_run.specs.Opening.{AreThreadsFor};
-ghost use Rattle.thread_run.specs.Concluded.{HaveSettled};
+ghost use Rattle.thread_run.specs.Rounds.{AreDrawn, AreOfNumbers, given_by};
+ghost use Rattle.thread_run.specs.Opening.{AreThreadsFor, IsNewHalt};
+ghost use Rattle.thread_run.specs.Concluded.{HaveCut, HaveSettled, NoneHalted};
 ghost use Rattle.thread_run.specs.declared.lane.CountedHead.{CountedHead as HeadValue};
 ghost use Rattle.thread_run.specs.declared.work.Work.{Work as WorkValue};
 
 use crate::all::{finish_all, start_all};
 use crate::lane::CountedHead;
 use crate::rounds::go_until;
-use crate::settle::{Settled, settle_all};
+use crate::settle::{Joined, empty_all, join_all};
 use crate::started::Started;
 use crate::work::{Work, Worked};
+use halt_word::{LookerList, Raiser, close_halt};
 use rec_base::{Sink, Source};
 use record_writer::{Writer, WriterFault};
 use std::rt::Clock;
@@ -33,7 +33,17 @@ use std::thread::{Scope, Threads};
 pub(crate) struct RunRoom<S: Source> {
     pub(crate) started: Vec<Started<S>>,
     pub(crate) worked: Vec<Worked<S>>,
-    pub(crate) settled: Vec<Settled<S>>,
+    pub(crate) joined: Vec<Joined<S>>,
+}
+
+/// The lanes of a run before anything is read: the work of each inlet, the end that takes of each lane, and
+/// the halt word, with an empty list for all that look at it.
+#[derive(Drop)]
+pub(crate) struct RunLanes<S: Source> {
+    pub(crate) works: Vec<Work<S>>,
+    pub(crate) heads: Vec<CountedHead>,
+    pub(crate) raiser: Raiser,
+    pub(crate) lookers: LookerList,
 }
 
 /// The sizes of a run: the most samples of a batch, and how many of one lane in a round mean that more
@@ -44,8 +54,19 @@ pub(crate) struct Pace {
     pub(crate) plenty: u64,
 }
 
+// Raises the halt word where a write failed; for want of memory it stays as it is.
+fn raise_behind(outcome: &Result<(), WriterFault>, raiser: &mut Raiser)
+    ensures word { raiser.new.word ≡ raiser.old.word }
+    ensures raised { IsErrOf outcome.now WriterFault.WriteFault → raiser.new.raised ≡ true }
+    ensures same { (IsErrOf outcome.now WriterFault.WriteFault → ⊥) → raiser.new ≡ raiser.old }
+{
+    if let Err(WriterFault::WriteFault) = outcome {
+        raiser.raise();
+    }
+}
+
 /// Starts each inlet, writes what comes until all have said that they ended, joins them, and writes what
-/// is left.
+/// is left. Once a write failed, the halt word is raised, so that each inlet stops.
 ///
 /// `WriteFault` comes only where a write failed in this call; `Memory` for want of memory alone, and
 /// never where all lanes are of numbers. Either comes behind the joins.
@@ -59,24 +80,25 @@ pub(crate) fn run_in<
     scope: &Scope<'s, E>,
     rt: &'s R,
     ended: &'s AtomicU64,
-    works: Vec<Work<S>>,
-    heads: Vec<CountedHead>,
+    lanes: RunLanes<S>,
     room: RunRoom<S>,
     writer: &mut Writer<'_, K>,
     pace: Pace,
-) -> Result<Vec<Settled<S>>, WriterFault>
-    requires fresh { (p : ℕ) (w : WorkValue _) → slice_get works.items p ≡ Some w → IsFresh w }
-    requires count { length works.items ≡ length heads.items }
-    requires lanes { (p : ℕ) (w : WorkValue _) (h : HeadValue) → slice_get works.items p ≡ Some w → slice_get heads.items p ≡ Some h → w.tail.lane ≡ h.head.lane }
-    requires none { (room.started.items ≡ []) × (room.worked.items ≡ []) × (room.settled.items ≡ []) }
-    requires room { (length works.items ≤ vec_capacity room.started) × (length works.items ≤ vec_capacity room.worked) × (length works.items ≤ vec_capacity room.settled) }
-    requires drawn { (streams : List StreamValue) × (base : Option (List ℕ)) × (batches : List Batch) × AreDrawn pace.batch streams base (K.held writer.old.sink.now) writer.old.room.desk batches heads.items }
+) -> Result<Vec<Joined<S>>, WriterFault>
+    requires fresh { (p : ℕ) (w : WorkValue _) → slice_get lanes.works.items p ≡ Some w → IsFresh w }
+    requires count { length lanes.works.items ≡ length lanes.heads.items }
+    requires lanes { (p : ℕ) (w : WorkValue _) (h : HeadValue) → slice_get lanes.works.items p ≡ Some w → slice_get lanes.heads.items p ≡ Some h → w.tail.lane ≡ h.head.lane }
+    requires halt { IsNewHalt lanes.works.items lanes.raiser lanes.lookers }
+    requires none { (room.started.items ≡ []) × (room.worked.items ≡ []) × (room.joined.items ≡ []) }
+    requires room { (length lanes.works.items ≤ vec_capacity room.started) × (length lanes.works.items ≤ vec_capacity room.worked) × (length lanes.works.items ≤ vec_capacity room.joined) }
+    requires drawn { (streams : List StreamValue) × (base : Option (List ℕ)) × (batches : List Batch) × AreDrawn pace.batch streams base (K.held writer.old.sink.now) writer.old.room.desk batches (map given_by lanes.heads.items) }
     ensures same_reference { writer.new.sink.ghost_name ≡ writer.old.sink.ghost_name }
-    ensures settled { (streams : List StreamValue) (base : Option (List ℕ)) (batches : List Batch) → AreDrawn pace.batch streams base (K.held writer.old.sink.now) writer.old.room.desk batches heads.items
-        → IfOk result (λ all. HaveSettled S.left S.faults S.mark pace.batch streams base (K.held writer.new.sink.now) writer.new.room.desk works.items all.items) }
-    ensures cut { (streams : List StreamValue) (base : Option (List ℕ)) (batches : List Batch) → AreDrawn pace.batch streams base (K.held writer.old.sink.now) writer.old.room.desk batches heads.items
-        → OnErr result ((some : List Batch) × IsCut streams base (K.held writer.new.sink.now) some) }
-    ensures memory { IsErrOf result WriterFault.Memory → AreOfNumbers heads.items → ⊥ }
+    ensures settled { (streams : List StreamValue) (base : Option (List ℕ)) (batches : List Batch) → AreDrawn pace.batch streams base (K.held writer.old.sink.now) writer.old.room.desk batches (map given_by lanes.heads.items)
+        → IfOk result (λ all. HaveSettled S.left S.faults S.mark pace.batch streams base (K.held writer.new.sink.now) writer.new.room.desk lanes.works.items all.items) }
+    ensures going { IfOk result (λ all. NoneHalted all.items) }
+    ensures cut { (streams : List StreamValue) (base : Option (List ℕ)) (batches : List Batch) → AreDrawn pace.batch streams base (K.held writer.old.sink.now) writer.old.room.desk batches (map given_by lanes.heads.items)
+        → OnErr result (HaveCut S.left S.faults S.mark streams base (K.held writer.new.sink.now) lanes.works.items) }
+    ensures memory { IsErrOf result WriterFault.Memory → AreOfNumbers (map given_by lanes.heads.items) → ⊥ }
     ensures cause { IsErrOf result WriterFault.WriteFault → Rose (K.write_faults writer.old.sink.now) (K.write_faults writer.new.sink.now) }
     ensures later { K.write_faults writer.old.sink.now ≤ K.write_faults writer.new.sink.now }
     ensures rest { K.rest writer.new.sink.now ≡ K.rest writer.old.sink.now }
@@ -84,9 +106,14 @@ pub(crate) fn run_in<
     let RunRoom {
         started,
         worked,
-        settled,
+        joined,
     } = room;
-    let mut heads = heads;
+    let RunLanes {
+        works,
+        mut heads,
+        mut raiser,
+        mut lookers,
+    } = lanes;
     let count = works.len() as u64;
     let started = start_all(scope, rt, ended, works, started);
     let outcome = go_until(
@@ -98,9 +125,13 @@ pub(crate) fn run_in<
         pace.batch,
         pace.plenty,
     );
+    raise_behind(&outcome, &mut raiser);
     let worked = finish_all(rt, started, worked);
+    let mut joined = join_all(rt, worked, heads, &mut lookers, joined);
+    let _raised = close_halt(raiser, lookers);
     outcome?;
-    settle_all(rt, worked, heads, settled, writer, pace.batch)
+    empty_all(rt, joined.as_mut_slice(), writer, pace.batch)?;
+    Ok(joined)
 }
 
 /// Writes the headers, and then all that the feeds give.
@@ -117,29 +148,29 @@ pub(crate) fn write_feeds<
     scope: &Scope<'s, E>,
     rt: &'s R,
     ended: &'s AtomicU64,
-    works: Vec<Work<S>>,
-    heads: Vec<CountedHead>,
+    lanes: RunLanes<S>,
     room: RunRoom<S>,
     writer: &mut Writer<'_, K>,
     pace: Pace,
-) -> Result<Vec<Settled<S>>, WriterFault>
+) -> Result<Vec<Joined<S>>, WriterFault>
     requires ready { (ring : ℕ) × (streams : List StreamValue) × (feeds : List (FeedValue S))
-        × AreThreadsFor ring pace.batch streams feeds writer.old.room.desk (record { works = works.items; heads = heads.items }) }
-    requires none { (room.started.items ≡ []) × (room.worked.items ≡ []) × (room.settled.items ≡ []) }
-    requires room { (length works.items ≤ vec_capacity room.started) × (length works.items ≤ vec_capacity room.worked) × (length works.items ≤ vec_capacity room.settled) }
+        × AreThreadsFor ring pace.batch streams feeds writer.old.room.desk (record { works = lanes.works.items; heads = lanes.heads.items; raiser = lanes.raiser; lookers = lanes.lookers }) }
+    requires none { (room.started.items ≡ []) × (room.worked.items ≡ []) × (room.joined.items ≡ []) }
+    requires room { (length lanes.works.items ≤ vec_capacity room.started) × (length lanes.works.items ≤ vec_capacity room.worked) × (length lanes.works.items ≤ vec_capacity room.joined) }
     ensures same_reference { writer.new.sink.ghost_name ≡ writer.old.sink.ghost_name }
-    ensures settled { (ring : ℕ) (streams : List StreamValue) (feeds : List (FeedValue S)) → AreThreadsFor ring pace.batch streams feeds writer.old.room.desk (record { works = works.items; heads = heads.items })
-        → IfOk result (λ all. HaveSettled S.left S.faults S.mark pace.batch streams (K.held writer.old.sink.now) (K.held writer.new.sink.now) writer.new.room.desk works.items all.items) }
+    ensures settled { (ring : ℕ) (streams : List StreamValue) (feeds : List (FeedValue S)) → AreThreadsFor ring pace.batch streams feeds writer.old.room.desk (record { works = lanes.works.items; heads = lanes.heads.items; raiser = lanes.raiser; lookers = lanes.lookers })
+        → IfOk result (λ all. HaveSettled S.left S.faults S.mark pace.batch streams (K.held writer.old.sink.now) (K.held writer.new.sink.now) writer.new.room.desk lanes.works.items all.items) }
+    ensures going { IfOk result (λ all. NoneHalted all.items) }
     ensures closed { OnOk result ((writer.new.room.desk.count ≡ 0) × (writer.new.room.desk.broken ≡ false)) }
-    ensures count { IfOk result (λ all. length all.items ≡ length works.items) }
-    ensures cut { (ring : ℕ) (streams : List StreamValue) (feeds : List (FeedValue S)) → AreThreadsFor ring pace.batch streams feeds writer.old.room.desk (record { works = works.items; heads = heads.items })
-        → OnErr result (IsCutOff streams (K.held writer.old.sink.now) (K.held writer.new.sink.now)) }
-    ensures memory { (ring : ℕ) (streams : List StreamValue) (feeds : List (FeedValue S)) → AreThreadsFor ring pace.batch streams feeds writer.old.room.desk (record { works = works.items; heads = heads.items })
+    ensures count { IfOk result (λ all. length all.items ≡ length lanes.works.items) }
+    ensures cut { (ring : ℕ) (streams : List StreamValue) (feeds : List (FeedValue S)) → AreThreadsFor ring pace.batch streams feeds writer.old.room.desk (record { works = lanes.works.items; heads = lanes.heads.items; raiser = lanes.raiser; lookers = lanes.lookers })
+        → OnErr result (IsCutOff S.left streams feeds (K.held writer.old.sink.now) (K.held writer.new.sink.now)) }
+    ensures memory { (ring : ℕ) (streams : List StreamValue) (feeds : List (FeedValue S)) → AreThreadsFor ring pace.batch streams feeds writer.old.room.desk (record { works = lanes.works.items; heads = lanes.heads.items; raiser = lanes.raiser; lookers = lanes.lookers })
         → AreNumbers streams → IsErrOf result WriterFault.Memory → ⊥ }
     ensures cause { IsErrOf result WriterFault.WriteFault → Rose (K.write_faults writer.old.sink.now) (K.write_faults writer.new.sink.now) }
     ensures later { K.write_faults writer.old.sink.now ≤ K.write_faults writer.new.sink.now }
     ensures rest { K.rest writer.new.sink.now ≡ K.rest writer.old.sink.now }
 {
     writer.begin()?;
-    run_in(scope, rt, ended, works, heads, room, writer, pace)
+    run_in(scope, rt, ended, lanes, room, writer, pace)
 }

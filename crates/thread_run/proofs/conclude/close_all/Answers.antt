@@ -3,17 +3,14 @@ use Rattle.std.specs.Prelude.{vec_len}
 use Rattle.std.proofs.lemmas.List.{append-nil}
 use Rattle.std.proofs.lemmas.Option.{slice_get_read}
 use Rattle.run_model.proofs.Lists.{cons_of}
-use Rattle.thread_run.specs.declared.settle.Settled.{Settled}
+use Rattle.thread_run.specs.declared.settle.Joined.{Joined}
+use Rattle.thread_run.proofs.Settling.{empty_of}
 use Rattle.thread_run.proofs.conclude.close_all.Goals as goal
-
-empty_of : {A : Type 0} (xs : List A) → length xs ≡ 0 → xs ≡ []
-empty_of [] e = refl
-empty_of (x ∷ xs) e = absurd (omega (arith, e))
 
 pub loop-preserved : goal.loop-preserved
 loop-preserved g c =
     let i = c.loop.invariant in
-    let V = Settled g.row.S.Denot in
+    let V = Joined g.row.S.Denot in
     let d : V = c.remove.result in
     let old = c.loop.settled.items in
     let size : vec_len c.args.settled ≡ length c.args.settled.items = search rules in
@@ -39,7 +36,7 @@ loop-preserved g c =
 pub returns : goal.returns
 returns g c =
     let i = c.loop.invariant in
-    let f : Settled g.row.S.Denot → g.row.S.Denot = λ s. s.reader.source in
+    let f : Joined g.row.S.Denot → g.row.S.Denot = λ s. s.reader.source in
     let size : vec_len c.args.settled ≡ length c.args.settled.items = search rules in
     let none : c.loop.settled.items ≡ [] = empty_of c.loop.settled.items (omega (arith, i.count, c.loop-test.false, c.loop.auto.counter-end, size)) in
-    sym (append-nil c.loop.sources.items) ∙ ap (λ (l : List (Settled g.row.S.Denot)). c.loop.sources.items ++ map f l) (sym none) ∙ i.whole
+    sym (append-nil c.loop.sources.items) ∙ ap (λ (l : List (Joined g.row.S.Denot)). c.loop.sources.items ++ map f l) (sym none) ∙ i.whole

@@ -1,7 +1,8 @@
 use Rattle.std.proofs.Common.{◌≡◌, inl, inr, Some, slice_get, length, refl, sym, ap, ◌∙◌, arith}
 use Rattle.std.proofs.lemmas.Option.{slice_get_within, slice_get_read}
 use Rattle.run_model.proofs.Lists.{same_or}
-use Rattle.thread_run.specs.declared.settle.Settled.{Settled}
+use Rattle.thread_run.specs.declared.settle.Joined.{Joined}
+use Rattle.thread_run.proofs.Finishing.{ended_or}
 use Rattle.thread_run.proofs.conclude.ran_out.Goals as goal
 
 pub returns-in-Memory-clause-some : goal.returns-in-Memory-clause-some
@@ -14,7 +15,10 @@ loop-one-preserved g c =
     let there : slice_get c.args.settled.now c.loop-one.one-index ≡ Some c.one-item.result = slice_get_read c.args.settled.now (length c.args.settled.now) c.loop-one.one-index c.one-item.result refl c.loop-one-test.true c.one-item.is in
     record {
       all = λ p s low e. elim (same_or p c.loop-one.one-index) [
-        | inl k ↦ let same : c.one-item.result ≡ s = cc (there, e, k) in (c.in_default.field-0, ap (λ (x : Settled g.row.S.Denot). x.done) (sym same) ∙ c.in_default.is)
+        | inl k ↦
+            let same : c.one-item.result ≡ s = cc (there, e, k) in
+            let d = ended_or c.one-item.result.done c.in_default.not-Memory (c.requires.going c.loop-one.one-index c.one-item.result there) in
+            (d.0, ap (λ (x : Joined g.row.S.Denot). x.done) (sym same) ∙ d.1)
         | inr k ↦ c.loop-one.invariant.all p s (omega (arith, low, k)) e
       ];
     }

@@ -12,14 +12,14 @@ returns-in-Ok-clause-run g c =
     let M = g.S.Source.mark in
     let batch = c.args.batch in
     let i = c.feeds.inside in
-    let inner : ThreadsView g.row.S.Denot = record { works = i.works.items; heads = i.heads.items } in
+    let inner : ThreadsView g.row.S.Denot = record { works = i.works.items; heads = i.heads.items; raiser = i.raiser; lookers = i.lookers } in
     let base = g.K.Sink.held c.over-writer.result.sink.now in
     let desk = c.over-writer.result.room.desk in
     let now = g.K.Sink.held c.conclude.new.writer.0 in
     let told = c.conclude.result.0 in
     let run : HaveRun L F M batch desk inner base now told = record {
       done = λ ring streams feeds o. c.conclude.ensures.done ring batch streams feeds base desk inner o (c.in-Ok.ensures.settled ring streams feeds o);
-      stopped = λ ring streams feeds o. c.conclude.ensures.stopped batch streams base inner (c.in-Ok.ensures.settled ring streams feeds o);
+      stopped = λ ring streams feeds o. c.conclude.ensures.stopped ring batch streams feeds base desk inner o (c.in-Ok.ensures.settled ring streams feeds o);
       memory = λ ring streams feeds o numbers. c.conclude.ensures.memory ring batch streams feeds base desk inner o (c.in-Ok.ensures.settled ring streams feeds o) numbers;
     } in
     let before : base ≡ g.K.Sink.held c.args.sink.now = ap g.K.Sink.held c.over-writer.ensures.sink in
@@ -37,7 +37,7 @@ returns-in-Err-clause-run g c =
     let M = g.S.Source.mark in
     let batch = c.args.batch in
     let i = c.feeds.inside in
-    let inner : ThreadsView g.row.S.Denot = record { works = i.works.items; heads = i.heads.items } in
+    let inner : ThreadsView g.row.S.Denot = record { works = i.works.items; heads = i.heads.items; raiser = i.raiser; lookers = i.lookers } in
     let base = g.K.Sink.held c.over-writer.result.sink.now in
     let desk = c.over-writer.result.room.desk in
     let now = g.K.Sink.held c.write_feeds.new.writer.sink.now in

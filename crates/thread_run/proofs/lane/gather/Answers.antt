@@ -3,13 +3,14 @@ use Rattle.std.proofs.Common.{subst}
 use Rattle.feed_lane.specs.Lanes.{IsPutOut}
 use Rattle.run_model.proofs.Batches.{open_of}
 use Rattle.run_model.proofs.Errors.{on_err}
-use Rattle.thread_run.proofs.Gathering.{gathered_more}
+use Rattle.thread_run.proofs.Gathering.{gathered_more, cut_open}
 use Rattle.thread_run.proofs.lane.gather.Goals as goal
 
 pub returns-in_err-put_oldest-clause-cut : goal.returns-in_err-put_oldest-clause-cut
 returns-in_err-put_oldest-clause-cut g c = λ streams base batches st.
     let d = c.loop-count.invariant.gathered in
-    on_err c.from_residual.result (c.in_err-put_oldest.ensures.cut streams base batches (open_of c.args.place d.put) (d.stands streams base batches st))
+    let k = c.in_err-put_oldest.ensures.cut streams base batches (open_of c.args.place d.put) (d.stands streams base batches st) in
+    on_err c.from_residual.result (k.0, k.1, cut_open c.args.place c.args.head.now.taken c.loop-count.head.taken c.put_oldest.new.self.taken d.put batches k.0 d.taken k.2)
 
 pub loop-count-preserved : goal.loop-count-preserved
 loop-count-preserved g c =

@@ -1,7 +1,7 @@
 use Rattle.run_model.proofs.Batches.{open_of}
 use Rattle.run_model.proofs.Errors.{on_err}
 use Rattle.record_writer.specs.Standing.{closed}
-use Rattle.thread_run.proofs.Gathering.{closing, written_one}
+use Rattle.thread_run.proofs.Gathering.{closing, written_one, cut_all}
 use Rattle.thread_run.proofs.lane.write_some.Goals as goal
 
 pub returns-in_err-count-clause-cut : goal.returns-in_err-count-clause-cut
@@ -11,7 +11,7 @@ pub returns-in_err-close_batch-clause-cut : goal.returns-in_err-close_batch-clau
 returns-in_err-close_batch-clause-cut g c = λ streams base batches st.
     let d = c.in_ok-count.ensures.gathered.1 in
     let current = open_of c.args.place d.put in
-    on_err c.from_residual-in_err-close_batch.result (closed batches current, c.in_err-close_batch.ensures.cut streams base batches current (d.stands streams base batches st))
+    on_err c.from_residual-in_err-close_batch.result (closed batches current, c.in_err-close_batch.ensures.cut streams base batches current (d.stands streams base batches st), cut_all c.args.place c.args.lane.now.head.taken c.gather.new.head.taken d.put batches d.taken)
 
 pub returns-clause-wrote : goal.returns-clause-wrote
 returns-clause-wrote g c =

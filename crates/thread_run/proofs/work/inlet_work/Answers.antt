@@ -1,4 +1,4 @@
-use Rattle.std.proofs.Common.{List, sym, ap, ◌∙◌, subst, arith}
+use Rattle.std.proofs.Common.{List, [], ◌∷◌, length, length-append, sym, ap, ◌∙◌, subst, arith}
 use Rattle.piece_reader.proofs.Ending.{ends_so}
 use Rattle.xdf_model.specs.Sample.{Sample}
 use Rattle.reading_model.specs.Outlook.{Answered}
@@ -8,7 +8,7 @@ use Rattle.feed_samples.specs.declared.step.FeedStep.{FeedStep}
 use Rattle.feed_samples.specs.Inlet.{got, outlook}
 use Rattle.feed_lane.specs.declared.step.LaneStep.TheVariants as lane
 use Rattle.run_model.proofs.Ends.{fault_alone}
-use Rattle.thread_run.proofs.Reading.{end_met, begun_sample, begun_memory, received_sample, received_end, received_memory}
+use Rattle.thread_run.proofs.Reading.{sample_put, end_met, begun_sample, begun_memory, received_sample, received_end, received_memory}
 use Rattle.thread_run.proofs.work.inlet_work.Goals as goal
 
 pub loop-preserved : goal.loop-preserved
@@ -27,6 +27,8 @@ loop-preserved g c =
       received = received_sample c.loop.tail c.take_from.new.self n.put.0 c.loop.reader.inlet.received new.inlet.received n.put.1 i.received n.put.4;
       bounded = omega (arith, n.bounded, n.same_shape.1, i.limit);
       lane = n.same ∙ i.lane;
+      word = c.seen.ensures.word ∙ i.word;
+      looks = let p = sample_put c.loop.tail c.take_from.new.self n.put.0 n.put.1 in omega (arith, c.seen.ensures.looks, i.looks, ap length p.2, length-append c.loop.tail.puts (p.0 ∷ []));
     }
 
 pub returns-in-End-clause-put : goal.returns-in-End-clause-put

@@ -1,4 +1,4 @@
-use Rattle.std.proofs.Common.{◌≡◌, ◌≤◌, length}
+use Rattle.std.proofs.Common.{◌≡◌, ◌+◌, ◌≤◌, length}
 use Rattle.piece_reader.specs.Steps.{Begun}
 use Rattle.piece_reader.proofs.Ending.{fresh}
 use Rattle.feed_samples.specs.Inlet.{outlook}
@@ -14,4 +14,6 @@ invariant-loop g l = record {
   received : l.reader.inlet.received ≡ length l.tail.puts;
   bounded : l.reader.inlet.received ≤ l.fn.reader.inlet.byte_limit;
   lane : l.tail.lane ≡ l.fn.tail.lane;
+  word : l.looker.word ≡ l.fn.looker.word;
+  looks : l.looker.looks ≡ l.fn.looker.looks + length l.tail.puts;
 }

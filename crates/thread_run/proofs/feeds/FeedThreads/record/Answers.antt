@@ -14,5 +14,5 @@ pub returns-clause-stopped : goal.returns-clause-stopped
 returns-clause-stopped g c = λ ring streams feeds o.
     let e = c.scoped-back.ensures.1 in
     let back = c.sink-1.given.1 (sym e.0) ∙ c.keep.ensures in
-    let P : Option (List ℕ) → Type 0 = λ held. IsStopped streams (g.K.Sink.held c.args.sink.now) held c.scoped-back.result.1.0 in
+    let P : Option (List ℕ) → Type 0 = λ held. IsStopped g.S.Source.left streams feeds (g.K.Sink.held c.args.sink.now) held c.scoped-back.result.1.0 in
     subst P (ap g.K.Sink.held (sym back)) (e.1.0.stopped ring streams feeds o)
