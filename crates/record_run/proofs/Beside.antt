@@ -1,12 +1,13 @@
 -- The feeds of a turn, one beside the other.
-use Rattle.std.proofs.Common.{◌≡◌, ℕ, zero, suc, ◌+◌, ◌<◌, ◌≤◌, List, [], ◌∷◌, ◌++◌, length, map, slice_get, Some, refl, sym, ap, ◌∙◌, arith, append_assoc}
-use Rattle.std.specs.Prelude.{◌==◌, true, false, if◌then◌else◌}
+use Rattle.std.proofs.Common.{◌≡◌, ℕ, zero, suc, ◌+◌, ◌<◌, ◌≤◌, List, [], ◌∷◌, ◌++◌, length, map, slice_get, Some, refl, ap, ◌∙◌, arith}
+use Rattle.std.specs.Prelude.{◌==◌, true, false}
 use Rattle.std.proofs.lemmas.List.{append-nil}
 use Rattle.xdf_model.specs.Sample.{Sample}
 use Rattle.recording_model.specs.Batch.{Entry, Batch}
 use Rattle.turns_model.specs.Turns.{kept_in, batch_of, turn, first_turns}
 use Rattle.loss_model.specs.Loss.{entries_at}
 use Rattle.run_model.specs.Rings.{ring_entry}
+use Rattle.run_model.proofs.Batches.{entries_append}
 use Rattle.record_run.specs.Kept.{kept_up_to}
 use Rattle.record_run.specs.Inlets.{InletView, waiting_batches}
 use Rattle.record_run.proofs.Slabs.{HasGrown, kept_before}
@@ -52,13 +53,7 @@ waiting_is_turn ring batch t place (x ∷ xs) (l ∷ lists) count each =
 
 -- ---- the entries of a place
 
-entries_both : (place : ℕ) (cs bs : List Batch) → entries_at place (cs ++ bs) ≡ entries_at place cs ++ entries_at place bs
-entries_both place [] bs = refl
-entries_both place (b ∷ cs) bs =
-    let own = if b.place == place then b.entries else [] in
-    ap (λ (es : List Entry). own ++ es) (entries_both place cs bs) ∙ sym (append_assoc own (entries_at place cs) (entries_at place bs))
-
-entries_own : (place : ℕ) (es : List Entry) → entries_at place (batch_of place es) ≡ es
+pub entries_own : (place : ℕ) (es : List Entry) → entries_at place (batch_of place es) ≡ es
 entries_own place [] = refl
 entries_own place (e ∷ es) = let same : (place == place) ≡ true = grind arith in rw same (append-nil (e ∷ es))
 
@@ -69,7 +64,7 @@ entries_else place n (e ∷ es) low = let apart : (n == place) ≡ false = grind
 entries_later : (ring batch t place n : ℕ) (lists : List (List Sample)) → place < n → entries_at place (turn ring batch t n lists) ≡ []
 entries_later ring batch t place n [] low = refl
 entries_later ring batch t place n (l ∷ lists) low =
-    entries_both place (batch_of n (kept_in ring batch t l)) (turn ring batch t (n + 1) lists)
+    entries_append place (batch_of n (kept_in ring batch t l)) (turn ring batch t (n + 1) lists)
     ∙ ap (λ (es : List Entry). es ++ entries_at place (turn ring batch t (n + 1) lists)) (entries_else place n (kept_in ring batch t l) low)
     ∙ entries_later ring batch t place (n + 1) lists (omega (arith, low))
 
@@ -83,20 +78,20 @@ entries_turn ring batch t zero n (m ∷ lists) l e =
     let same : m ≡ l = cc e in
     let at : n + 0 ≡ n = omega arith in
     ap (λ (q : ℕ). entries_at q (turn ring batch t n (m ∷ lists))) at
-    ∙ entries_both n (batch_of n (kept_in ring batch t m)) (turn ring batch t (n + 1) lists)
+    ∙ entries_append n (batch_of n (kept_in ring batch t m)) (turn ring batch t (n + 1) lists)
     ∙ ap (λ (es : List Entry). es ++ entries_at n (turn ring batch t (n + 1) lists)) (entries_own n (kept_in ring batch t m))
     ∙ ap (λ (es : List Entry). kept_in ring batch t m ++ es) (entries_later ring batch t n (n + 1) lists (omega arith))
     ∙ append-nil (kept_in ring batch t m) ∙ ap (kept_in ring batch t) same
 entries_turn ring batch t (suc p) n (m ∷ lists) l e =
     let at : n + suc p ≡ (n + 1) + p = omega arith in
-    entries_both (n + suc p) (batch_of n (kept_in ring batch t m)) (turn ring batch t (n + 1) lists)
+    entries_append (n + suc p) (batch_of n (kept_in ring batch t m)) (turn ring batch t (n + 1) lists)
     ∙ ap (λ (es : List Entry). es ++ entries_at (n + suc p) (turn ring batch t (n + 1) lists)) (entries_before (n + suc p) n (kept_in ring batch t m) (omega arith))
     ∙ ap (λ (q : ℕ). entries_at q (turn ring batch t (n + 1) lists)) at ∙ entries_turn ring batch t p (n + 1) lists l e
 
 pub entries_turns : (ring batch p n : ℕ) (lists : List (List Sample)) (l : List Sample) → slice_get lists p ≡ Some l → entries_at p (first_turns ring batch lists n) ≡ kept_up_to ring batch l n
 entries_turns ring batch p zero lists l e = refl
 entries_turns ring batch p (suc n) lists l e =
-    entries_both p (first_turns ring batch lists n) (turn ring batch n 0 lists)
+    entries_append p (first_turns ring batch lists n) (turn ring batch n 0 lists)
     ∙ ap (λ (es : List Entry). es ++ entries_at p (turn ring batch n 0 lists)) (entries_turns ring batch p n lists l e)
     ∙ ap (λ (es : List Entry). kept_up_to ring batch l n ++ es) (at_zero p ∙ entries_turn ring batch n p 0 lists l e)
   where

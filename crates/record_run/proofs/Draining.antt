@@ -1,6 +1,6 @@
 -- Entries of a ring, as they go one after the other to the writer.
-use Rattle.std.proofs.Common.{◌≡◌, ◌≢◌, ◌^◌, Bool, ℕ, ◌+◌, ◌<◌, ◌≤◌, inl, inr, false, List, [], ◌∷◌, ◌++◌, length, map, take, drop, Option, None, Some, Result, Ok, Err, refl, sym, ap, ◌∙◌, subst, append_assoc, arith}
-use Rattle.std.specs.Prelude.{slice_get, OnOk, OnErr}
+use Rattle.std.proofs.Common.{◌≡◌, ◌≢◌, ◌^◌, ℕ, ◌+◌, ◌<◌, ◌≤◌, inl, inr, false, List, [], ◌∷◌, ◌++◌, length, map, take, drop, Option, None, Some, Result, refl, sym, ap, ◌∙◌, subst, append_assoc, arith}
+use Rattle.std.specs.Prelude.{slice_get, OnOk}
 use Rattle.std.specs.List.{AllByRecursion}
 use Rattle.std.proofs.lemmas.Bool.Decides.{nat_tests}
 use Rattle.std.proofs.lemmas.List.{append-nil, length-map}
@@ -15,7 +15,7 @@ use Rattle.turns_model.specs.Turns.{batch_of}
 use Rattle.record_writer.specs.declared.place.Place.{Place}
 use Rattle.record_writer.specs.declared.fault.WriterFault.{WriterFault}
 use Rattle.record_writer.specs.Desk.{DeskState, next_at, shapes_of, IsFreeFor}
-use Rattle.record_writer.specs.Standing.{StandsFor, IsCut, closed}
+use Rattle.record_writer.specs.Standing.{StandsFor, closed}
 use Rattle.run_model.specs.Rings.{ring_entry}
 use Rattle.record_run.specs.FeedRings.{IsTake}
 use Rattle.run_model.specs.Putting.{IsOnePut, IsTakenAt}
@@ -194,16 +194,6 @@ still_within places first place same lt =
     let f : Place → Shape = λ x. x.shape in
     omega (arith, ap length same, length-map places f, length-map first f)
 
--- ---- where a put fails
-
-pub cut_one : {S : Type 0} (place : ℕ) (x now : InletView S) (before mid : DeskState) (base_held held_mid held : Option (List ℕ)) (r : Result Bool WriterFault) (e : WriterFault) → r ≡ Err e
-    → Draining place x now before mid base_held held_mid
-    → ((streams : List StreamDoc) (base : Option (List ℕ)) (batches : List Batch) (current : Option Batch) → StandsFor streams base held_mid mid batches current → OnErr r ((some : List Batch) × IsCut streams base held some))
-    → (streams : List StreamDoc) (base : Option (List ℕ)) (batches : List Batch) → StandsFor streams base base_held before batches None → (some : List Batch) × IsCut streams base held some
-cut_one place x now before mid base_held held_mid held r e is d cut streams base batches st =
-    let P : Result Bool WriterFault → Type 0 = λ o. OnErr o ((some : List Batch) × IsCut streams base held some) in
-    subst P is (cut streams base batches (open_of place d.put) (d.stands streams base batches st))
-
 -- ---- the whole pass
 
 pub all_put : {S : Type 0} (place : ℕ) (x now : InletView S) (before after : DeskState) (base_held held : Option (List ℕ)) (d : Draining place x now before after base_held held) → now.ring.queue ≡ []
@@ -221,14 +211,6 @@ closed_so place x now before after last base_held held_mid held r d none closes 
     let is : closed batches (open_of place d.put) ≡ batches ++ batch_of place (map ring_entry x.ring.queue) =
     closed_all place batches d.put ∙ ap (λ (es : List Entry). batches ++ batch_of place es) (all_put place x now before after base_held held_mid d none) in
     subst (λ (bs : List Batch). OnOk r (StandsFor streams base held last bs None)) is (closes streams base batches (open_of place d.put) (d.stands streams base batches st))
-
-pub cut_so : {S : Type 0} (place : ℕ) (x now : InletView S) (before after : DeskState) (base_held held_mid held : Option (List ℕ)) (r : Result (Unit {0}) WriterFault)
-    → Draining place x now before after base_held held_mid
-    → ((streams : List StreamDoc) (base : Option (List ℕ)) (batches : List Batch) (current : Option Batch) → StandsFor streams base held_mid after batches current → OnErr r (IsCut streams base held (closed batches current)))
-    → (streams : List StreamDoc) (base : Option (List ℕ)) (batches : List Batch) → StandsFor streams base base_held before batches None → OnErr r ((some : List Batch) × IsCut streams base held some)
-cut_so place x now before after base_held held_mid held (Ok v) d cuts streams base batches st = tt
-cut_so place x now before after base_held held_mid held (Err e) d cuts streams base batches st =
-    (closed batches (open_of place d.put), cuts streams base batches (open_of place d.put) (d.stands streams base batches st))
 
 pub drained_all : {S : Type 0} (place : ℕ) (x now next : InletView S) (before after : DeskState) (base_held held : Option (List ℕ)) → Draining place x now before after base_held held → now.ring.queue ≡ [] → next.ring ≡ now.ring
     → SameBut now next → IsDrained x next

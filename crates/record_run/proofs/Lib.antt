@@ -6,4 +6,6 @@ pub mod Starting
 pub mod Finishing
 pub mod Filling
 pub mod Draining
+pub mod Cutting
+pub mod Firsts
 pub mod Blocks

@@ -11,14 +11,12 @@ use Rattle.ring_model.specs.Ring.{new_ring}
 use Rattle.recording_model.specs.declared.stream.StreamDoc.{StreamDoc}
 use Rattle.record_writer.specs.declared.place.Place.{Place}
 use Rattle.record_writer.specs.Desk.{DeskState, next_in, next_at, new_place}
-use Rattle.record_writer.specs.Standing.{StandsFor, IsCut, IsReady}
-use Rattle.record_writer.proofs.Stopped.{stands_cut}
-use Rattle.turns_model.specs.Turns.{first_turns}
+use Rattle.record_writer.specs.Standing.{StandsFor, IsReady}
 use Rattle.run_model.specs.declared.feed.FeedSource.{FeedSource}
 use Rattle.run_model.specs.Run.{byte_limit, feed_of}
 use Rattle.thread_run.specs.declared.work.Work.{Work}
 use Rattle.thread_run.specs.declared.lane.CountedHead.{CountedHead}
-use Rattle.thread_run.specs.Opening.{ThreadsView, IsNewLane, AreThreadsFor}
+use Rattle.thread_run.specs.Opening.{ThreadsView, IsNewLane, IsNewHalt, AreThreadsFor}
 use Rattle.record_run.specs.Inlets.{InletView, HasGiven, AreNumeric}
 use Rattle.run_model.specs.Fitting.{AreNumbers}
 use Rattle.record_run.specs.Opening.{TurnsView, IsNewInlet, AreTurnsFor}
@@ -117,10 +115,6 @@ module _ {S M : Type 0} (left_of : S → Option (List ℕ)) (faults_of : S → �
         let up : turns * 1 ≤ turns * batch = mul-le-mul_left turns some in
         omega (arith, up, many, t.aligned none, t.bounded)
 
-    -- what was written is a front of a recording
-    pub turned_cut : IsCut streams base held (first_turns ring batch lists turns)
-    turned_cut = stands_cut streams base held desk (first_turns ring batch lists turns) None k.written
-
 -- ---- opening
 
 pub opened_next : {S : Type 0} (ring n : ℕ) (streams : List StreamDoc) (feeds : List (FeedSource S)) (xs : List (InletView S)) (s : StreamDoc) (d : FeedSource S) (x : InletView S) → length xs ≡ n
@@ -156,8 +150,8 @@ pub threads_for : {S : Type 0} (ring batch : ℕ) (streams : List StreamDoc) (fe
     → first ≡ streams → second ≡ streams → 1 ≤ ring → 1 ≤ batch → IsReady first desk → desk.places ≡ map new_place first → length feeds ≡ length streams
     → (length v.works ≡ length second) × (length v.heads ≡ length second)
     → ((p : ℕ) (s : StreamDoc) (d : FeedSource S) (w : Work S) (h : CountedHead) → slice_get second p ≡ Some s → slice_get feeds p ≡ Some d → slice_get v.works p ≡ Some w → slice_get v.heads p ≡ Some h → IsNewLane ring s d w h)
-    → AreThreadsFor ring batch streams feeds desk v
-threads_for ring batch streams feeds v desk first second a b low some ready places feed_count counts each = record {
+    → IsNewHalt v.works v.raiser v.lookers → AreThreadsFor ring batch streams feeds desk v
+threads_for ring batch streams feeds v desk first second a b low some ready places feed_count counts each halt = record {
   low = low;
   some = some;
   ready = subst (λ (l : List StreamDoc). IsReady l desk) a ready;
@@ -166,4 +160,5 @@ threads_for ring batch streams feeds v desk first second a b low some ready plac
   work_count = counts.0 ∙ ap length b;
   head_count = counts.1 ∙ ap length b;
   each = λ p s d w h es ed ew eh. each p s d w h (ap (λ (l : List StreamDoc). slice_get l p) b ∙ es) ed ew eh;
+  halt = halt;
 }

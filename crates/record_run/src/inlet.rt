@@ -13,6 +13,7 @@ ghost use Rattle.recording_model.specs.Batch.{Batch};
 ghost use Rattle.turns_model.specs.Turns.{batch_of};
 ghost use Rattle.record_writer.specs.Desk.{next_at, shapes_of};
 ghost use Rattle.record_writer.specs.Standing.{StandsFor, IsCut};
+ghost use Rattle.run_model.specs.Putting.{IsCutAt};
 ghost use Rattle.run_model.specs.Run.{byte_limit};
 ghost use Rattle.run_model.specs.Rings.{ring_entry};
 ghost use Rattle.record_run.specs.Inlets.{IsFilled, IsDrained, AreWaiting};
@@ -129,7 +130,7 @@ impl<S: Source> Inlet<S> {
             → OnOk result (StandsFor streams base (K.held writer.new.sink.now) writer.new.room.desk (batches ++ batch_of place (map ring_entry self.old.ring.queue)) None) }
         ensures cut { (streams : List StreamValue) (base : Option (List ℕ)) (batches : List Batch)
             → StandsFor streams base (K.held writer.old.sink.now) writer.old.room.desk batches None
-            → OnErr result ((some : List Batch) × IsCut streams base (K.held writer.new.sink.now) some) }
+            → OnErr result ((some : List Batch) × IsCut streams base (K.held writer.new.sink.now) some × IsCutAt place [] self.old.ring.queue batches some) }
         ensures next_here { OnOk result (next_at writer.new.room.desk place ≤ self.old.ring.pushes) }
         ensures next_else { OnOk result ((p : ℕ) → p ≢ place → next_at writer.new.room.desk p ≡ next_at writer.old.room.desk p) }
         ensures shapes { OnOk result (shapes_of writer.new.room.desk ≡ shapes_of writer.old.room.desk) }

@@ -6,7 +6,9 @@
 //! writes the file. `run_threads` reads each in a thread of its own. Either promises, once it is done,
 //! that the file is the recording of exactly the samples of its feeds without those that its ledger
 //! names, and that these are the ones which the rings dropped. By turns the file is a function of the
-//! feeds.
+//! feeds. Where a write failed, what the sink holds is part of a recording of these feeds.
+//!
+//! [`inlet_work`] is what the thread of a feed does, for who reads a feed into a lane by itself.
 #![tactic(auto)]
 
 mod cost;
@@ -23,3 +25,4 @@ mod turns;
 pub use cost::ring_cost;
 pub use recorder::Recorder;
 pub use run_model::{FeedEnd, FeedReport, FeedSource, Outcome, ReportList, SourceList, StreamDoc};
+pub use thread_run::{InletDone, inlet_work};

@@ -5,8 +5,9 @@ ghost use Rattle.rec_base.specs.Causes.{Rose};
 ghost use Rattle.recording_model.specs.declared.stream.StreamDoc.{StreamDoc as StreamValue};
 ghost use Rattle.recording_model.specs.Batch.{Batch};
 ghost use Rattle.record_writer.specs.Desk.{next_at, shapes_of};
-ghost use Rattle.record_writer.specs.Standing.{StandsFor, IsCut};
+ghost use Rattle.record_writer.specs.Standing.{StandsFor};
 ghost use Rattle.record_run.specs.Inlets.{InletView, IsFilled, IsDrained, AreNumeric, AreWaitingAll, waiting_batches};
+ghost use Rattle.record_run.specs.Cutting.{IsCutQueues};
 
 use crate::inlet::Inlet;
 use rec_base::{Memory, Sink, Source};
@@ -43,7 +44,7 @@ pub(crate) fn drain_all<S: Source, K: Sink>(
         → OnOk result (StandsFor streams base (K.held writer.new.sink.now) writer.new.room.desk (batches ++ waiting_batches 0 inlets.old) None) }
     ensures cut { (streams : List StreamValue) (base : Option (List ℕ)) (batches : List Batch)
         → StandsFor streams base (K.held writer.old.sink.now) writer.old.room.desk batches None
-        → OnErr result ((some : List Batch) × IsCut streams base (K.held writer.new.sink.now) some) }
+        → OnErr result (IsCutQueues streams base (K.held writer.new.sink.now) inlets.old batches) }
     ensures next { OnOk result ((p : ℕ) (x : InletView S) → slice_get inlets.old p ≡ Some x → next_at writer.new.room.desk p ≤ x.ring.pushes) }
     ensures shapes { OnOk result (shapes_of writer.new.room.desk ≡ shapes_of writer.old.room.desk) }
     ensures closed { OnOk result (writer.new.room.desk.count ≡ 0) }

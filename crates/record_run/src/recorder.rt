@@ -91,13 +91,14 @@ impl<S: Source + Send + Drop> Recorder<S> {
     ///
     /// `Done` says what became of the feeds, and that the file is whole. `WriteFault` comes only where a
     /// write of the sink failed in this call, `Memory` for want of memory alone, and never where all feeds
-    /// are of numbers; a front of a recording's file went out then.
+    /// are of numbers. What the sink holds is then a partial recording: whole chunks, which hold the first
+    /// samples of each feed without those that their ledger names, and at most a torn one.
     pub fn run_turns<K: Sink>(self, sink: &mut K) -> Outcome<S>
         requires mode { IsIn ByTurns self }
         ensures done { (ring batch : ℕ) (streams : List StreamValue) (feeds : List (FeedValue S)) → IsOpenFor ByTurns ring batch streams feeds self
             → IsDone S.left S.faults S.mark ByTurns ring batch streams feeds (K.held sink.old) (K.held sink.new) result }
         ensures stopped { (ring batch : ℕ) (streams : List StreamValue) (feeds : List (FeedValue S)) → IsOpenFor ByTurns ring batch streams feeds self
-            → IsStopped streams (K.held sink.old) (K.held sink.new) result }
+            → IsStopped S.left streams feeds (K.held sink.old) (K.held sink.new) result }
         ensures memory { (ring batch : ℕ) (streams : List StreamValue) (feeds : List (FeedValue S)) → IsOpenFor ByTurns ring batch streams feeds self
             → AreNumbers streams → result ≢ Outcome.Memory }
         ensures cause { result ≡ Outcome.WriteFault → Rose (K.write_faults sink.old) (K.write_faults sink.new) }
@@ -119,8 +120,8 @@ impl<S: Source + Send + Drop> Recorder<S> {
     ///
     /// `Done` says what became of the feeds, and that the file is whole. `WriteFault` comes only where a
     /// write of the sink failed in this call, `Memory` for want of memory alone, and never where all feeds
-    /// are of numbers; a front of a recording's file went out then. The threads are joined before either
-    /// is answered.
+    /// are of numbers. What the sink holds is then a partial recording, as by turns. Once a write failed
+    /// each inlet stops before its next sample, and the threads are joined before either is answered.
     pub fn run_threads<K: Sink, R: Threads + Wait + Clock + Sync>(
         self,
         rt: &R,
@@ -130,7 +131,7 @@ impl<S: Source + Send + Drop> Recorder<S> {
         ensures done { (ring batch : ℕ) (streams : List StreamValue) (feeds : List (FeedValue S)) → IsOpenFor ByThreads ring batch streams feeds self
             → IsDone S.left S.faults S.mark ByThreads ring batch streams feeds (K.held sink.old) (K.held sink.new) result }
         ensures stopped { (ring batch : ℕ) (streams : List StreamValue) (feeds : List (FeedValue S)) → IsOpenFor ByThreads ring batch streams feeds self
-            → IsStopped streams (K.held sink.old) (K.held sink.new) result }
+            → IsStopped S.left streams feeds (K.held sink.old) (K.held sink.new) result }
         ensures memory { (ring batch : ℕ) (streams : List StreamValue) (feeds : List (FeedValue S)) → IsOpenFor ByThreads ring batch streams feeds self
             → AreNumbers streams → result ≢ Outcome.Memory }
         ensures cause { result ≡ Outcome.WriteFault → Rose (K.write_faults sink.old) (K.write_faults sink.new) }
@@ -152,7 +153,7 @@ impl<S: Source + Send + Drop> Recorder<S> {
         ensures done { (ring batch : ℕ) (streams : List StreamValue) (feeds : List (FeedValue S)) → IsOpenFor ByThreads ring batch streams feeds self
             → IsDone S.left S.faults S.mark ByThreads ring batch streams feeds (K.held sink.old) (K.held sink.new) result.0 }
         ensures stopped { (ring batch : ℕ) (streams : List StreamValue) (feeds : List (FeedValue S)) → IsOpenFor ByThreads ring batch streams feeds self
-            → IsStopped streams (K.held sink.old) (K.held sink.new) result.0 }
+            → IsStopped S.left streams feeds (K.held sink.old) (K.held sink.new) result.0 }
         ensures memory { (ring batch : ℕ) (streams : List StreamValue) (feeds : List (FeedValue S)) → IsOpenFor ByThreads ring batch streams feeds self
             → AreNumbers streams → result.0 ≢ Outcome.Memory }
         ensures home_at_fault { result.0 ≡ Outcome.WriteFault → result.1 ≡ 0 }

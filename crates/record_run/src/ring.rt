@@ -9,14 +9,14 @@ ghost use Rattle.ring_model.specs.declared.entry.Entry.{Entry as EntryValue};
 ghost use Rattle.recording_model.specs.declared.stream.StreamDoc.{StreamDoc as StreamValue};
 ghost use Rattle.recording_model.specs.Batch.{Batch};
 ghost use Rattle.record_writer.specs.Desk.{IsFreeFor};
-ghost use Rattle.record_writer.specs.Standing.{StandsFor, IsCut};
+ghost use Rattle.record_writer.specs.Standing.{StandsFor, IsCut, closed};
 ghost use Rattle.ring_model.specs.Ring.{new_ring};
 ghost use Rattle.inlet_ring.specs.Lone.{StandsFor as RingStandsFor};
 ghost use Rattle.inlet_model.specs.Inlet.{feed_kind};
 ghost use Rattle.feed_samples.specs.declared.step.FeedStep.{FeedStep as StepValue};
 ghost use Rattle.feed_samples.specs.Inlet.{FitsGiven, got, outlook, received_by};
 ghost use Rattle.record_run.specs.FeedRings.{IsNoFuller, IsOut, IsPut};
-ghost use Rattle.run_model.specs.Putting.{IsTakenAt};
+ghost use Rattle.run_model.specs.Putting.{IsTakenAt, IsCutAt};
 
 use feed_samples::{BlockStep, FeedEnd, FeedReader, FillStep};
 use rec_base::{Memory, Sink, Source};
@@ -144,7 +144,7 @@ fn put_numbers<K: Sink>(
     ensures kept { (ring.new.shape ≡ ring.old.shape) × (ring.new.size ≡ ring.old.size) × (ring.new.lent ≡ 0) }
     ensures cut { (streams : List StreamValue) (base : Option (List ℕ)) (batches : List Batch) (current : Option Batch)
         → StandsFor streams base (K.held writer.old.sink.now) writer.old.room.desk batches current
-        → OnErr result ((some : List Batch) × IsCut streams base (K.held writer.new.sink.now) some) }
+        → OnErr result ((some : List Batch) × IsCut streams base (K.held writer.new.sink.now) some × IsCutAt place [] ring.old.ring.queue (closed batches current) some) }
     ensures fault { IfErr result (λ f. f ≡ WriterFault.WriteFault) }
     ensures cause { OnErr result (Rose (K.write_faults writer.old.sink.now) (K.write_faults writer.new.sink.now)) }
     ensures later { K.write_faults writer.old.sink.now ≤ K.write_faults writer.new.sink.now }
@@ -177,7 +177,7 @@ fn put_texts<K: Sink>(
     ensures fewer { IsNoFuller ring.old ring.new }
     ensures cut { (streams : List StreamValue) (base : Option (List ℕ)) (batches : List Batch) (current : Option Batch)
         → StandsFor streams base (K.held writer.old.sink.now) writer.old.room.desk batches current
-        → OnErr result ((some : List Batch) × IsCut streams base (K.held writer.new.sink.now) some) }
+        → OnErr result ((some : List Batch) × IsCut streams base (K.held writer.new.sink.now) some × IsCutAt place [] ring.old.queue (closed batches current) some) }
     ensures cause { IsErrOf result WriterFault.WriteFault → Rose (K.write_faults writer.old.sink.now) (K.write_faults writer.new.sink.now) }
     ensures later { K.write_faults writer.old.sink.now ≤ K.write_faults writer.new.sink.now }
     ensures rest { K.rest writer.new.sink.now ≡ K.rest writer.old.sink.now }
@@ -261,7 +261,7 @@ impl FeedRing {
         ensures shape { self.new.shape ≡ self.old.shape }
         ensures cut { (streams : List StreamValue) (base : Option (List ℕ)) (batches : List Batch) (current : Option Batch)
             → StandsFor streams base (K.held writer.old.sink.now) writer.old.room.desk batches current
-            → OnErr result ((some : List Batch) × IsCut streams base (K.held writer.new.sink.now) some) }
+            → OnErr result ((some : List Batch) × IsCut streams base (K.held writer.new.sink.now) some × IsCutAt place [] self.old.lone.queue (closed batches current) some) }
         ensures memory { IsErrOf result WriterFault.Memory → 1 ≤ size_of self.old.shape.format → ⊥ }
         ensures cause { IsErrOf result WriterFault.WriteFault → Rose (K.write_faults writer.old.sink.now) (K.write_faults writer.new.sink.now) }
         ensures later { K.write_faults writer.old.sink.now ≤ K.write_faults writer.new.sink.now }

@@ -74,7 +74,7 @@ impl<S: Source + Send + Drop> ThreadRecorder<S> {
         ensures done { (ring : ℕ) (streams : List StreamValue) (feeds : List (FeedValue S)) → AreThreadsFor ring self.batch streams feeds self.desk self.feeds
             → IsDone S.left S.faults S.mark ByThreads ring self.batch streams feeds (K.held sink.old) (K.held sink.new) result.0 }
         ensures stopped { (ring : ℕ) (streams : List StreamValue) (feeds : List (FeedValue S)) → AreThreadsFor ring self.batch streams feeds self.desk self.feeds
-            → IsStopped streams (K.held sink.old) (K.held sink.new) result.0 }
+            → IsStopped S.left streams feeds (K.held sink.old) (K.held sink.new) result.0 }
         ensures memory { (ring : ℕ) (streams : List StreamValue) (feeds : List (FeedValue S)) → AreThreadsFor ring self.batch streams feeds self.desk self.feeds
             → AreNumbers streams → result.0 ≢ Outcome.Memory }
         ensures home_at_fault { result.0 ≡ Outcome.WriteFault → result.1 ≡ 0 }

@@ -131,7 +131,7 @@ impl<S: Source + Send + Drop> TurnRecorder<S> {
         ensures done { (ring batch : ℕ) (streams : List StreamValue) (feeds : List (FeedValue S)) → AreTurnsFor ring batch streams feeds self
             → IsDone S.left S.faults S.mark Turns ring batch streams feeds (K.held sink.old) (K.held sink.new) result }
         ensures stopped { (ring batch : ℕ) (streams : List StreamValue) (feeds : List (FeedValue S)) → AreTurnsFor ring batch streams feeds self
-            → IsStopped streams (K.held sink.old) (K.held sink.new) result }
+            → IsStopped S.left streams feeds (K.held sink.old) (K.held sink.new) result }
         ensures memory { (ring batch : ℕ) (streams : List StreamValue) (feeds : List (FeedValue S)) → AreTurnsFor ring batch streams feeds self
             → AreNumbers streams → result ≢ Outcome.Memory }
         ensures cause { result ≡ Outcome.WriteFault → Rose (K.write_faults sink.old) (K.write_faults sink.new) }

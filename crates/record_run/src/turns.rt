@@ -49,7 +49,7 @@ pub(crate) fn take_turns<S: Source, K: Sink>(
     ensures ended { OnOk result (HaveEnded inlets.new) }
     ensures count { OnOk result (length inlets.new ≡ length inlets.old) }
     ensures cut { (ring : ℕ) (streams : List StreamValue) (feeds : List (FeedValue S)) → AreTurnsFor ring batch streams feeds (record { inlets = inlets.old; desk = writer.old.room.desk; batch = batch })
-        → OnErr result (IsCutOff streams (K.held writer.old.sink.now) (K.held writer.new.sink.now)) }
+        → OnErr result (IsCutOff S.left streams feeds (K.held writer.old.sink.now) (K.held writer.new.sink.now)) }
     ensures closed { OnOk result ((writer.new.room.desk.count ≡ 0) × (writer.new.room.desk.broken ≡ false)) }
     ensures memory { (ring : ℕ) (streams : List StreamValue) (feeds : List (FeedValue S)) → AreTurnsFor ring batch streams feeds (record { inlets = inlets.old; desk = writer.old.room.desk; batch = batch })
         → AreNumbers streams → IsErrOf result WriterFault.Memory → ⊥ }
@@ -107,7 +107,7 @@ pub(crate) fn finish<S: Source, K: Sink>(
         → IfOk result (λ r. IsRecorded S.left S.faults S.mark Turns ring batch streams feeds base (K.held writer.exit.0.now) r.reports r.bytes r.chunks (map (λ x. x.source) inlets.now)) }
     ensures stopped { (ring batch turns : ℕ) (streams : List StreamValue) (feeds : List (FeedValue S)) (base : Option (List ℕ)) (lists : List (List SampleValue)) → 1 ≤ ring → 1 ≤ batch
         → AreTurned S.left S.faults S.mark ring batch turns streams feeds base (K.held writer.entry.sink.now) writer.entry.room.desk lists inlets.now
-        → OnErr result (IsCutOff streams base (K.held writer.exit.0.now)) }
+        → OnErr result (IsCutOff S.left streams feeds base (K.held writer.exit.0.now)) }
     ensures fault { IfErr result (λ f. f ≡ WriterFault.WriteFault) }
     ensures cause { OnErr result (Rose (K.write_faults writer.entry.sink.now) (K.write_faults writer.exit.0.now)) }
     ensures later { K.write_faults writer.entry.sink.now ≤ K.write_faults writer.exit.0.now }
@@ -145,7 +145,7 @@ pub(crate) fn record<S: Source, K: Sink>(
     ensures done { (ring : ℕ) (streams : List StreamValue) (feeds : List (FeedValue S)) → AreTurnsFor ring batch streams feeds (record { inlets = inlets.old; desk = room.desk; batch = batch })
         → IfOk result (λ r. IsRecorded S.left S.faults S.mark Turns ring batch streams feeds (K.held sink.old) (K.held sink.new) r.reports r.bytes r.chunks (map (λ x. x.source) inlets.new)) }
     ensures stopped { (ring : ℕ) (streams : List StreamValue) (feeds : List (FeedValue S)) → AreTurnsFor ring batch streams feeds (record { inlets = inlets.old; desk = room.desk; batch = batch })
-        → OnErr result (IsCutOff streams (K.held sink.old) (K.held sink.new)) }
+        → OnErr result (IsCutOff S.left streams feeds (K.held sink.old) (K.held sink.new)) }
     ensures memory { (ring : ℕ) (streams : List StreamValue) (feeds : List (FeedValue S)) → AreTurnsFor ring batch streams feeds (record { inlets = inlets.old; desk = room.desk; batch = batch })
         → AreNumbers streams → IsErrOf result WriterFault.Memory → ⊥ }
     ensures cause { IsErrOf result WriterFault.WriteFault → Rose (K.write_faults sink.old) (K.write_faults sink.new) }

@@ -14,11 +14,18 @@ use Rattle.record_run.specs.Inlets.{InletView, AreWaiting, IsDrained, waiting_ba
 use Rattle.run_model.proofs.Lists.{set_cases, set_else, same_or}
 use Rattle.run_model.proofs.Errors.{on_err}
 use Rattle.record_run.proofs.Rounds.{waiting_more}
+use Rattle.record_run.proofs.Cutting.{cut_queues}
 use Rattle.record_run.proofs.passes.drain_all.Goals as goal
 
 pub returns-in_err-drain-clause-cut : goal.returns-in_err-drain-clause-cut
 returns-in_err-drain-clause-cut g c = λ streams base batches stands.
-    on_err c.from_residual.result (c.in_err-drain.ensures.cut streams base (batches ++ waiting_batches 0 (take c.loop-place.place c.args.inlets.now)) (c.loop-place.invariant.put streams base batches stands))
+    let i = c.loop-place.invariant in
+    let p = c.loop-place.place in
+    let here = get_or c.loop-place.inlets p c.index-inlets-place.result in
+    let there : slice_get c.loop-place.inlets p ≡ Some here = slice_get-get_or c.loop-place.inlets p c.index-inlets-place.result (omega (arith, c.loop-place-test.true, i.count)) in
+    let at : slice_get c.args.inlets.now p ≡ Some here = sym (i.todo p (omega arith)) ∙ there in
+    let k = c.in_err-drain.ensures.cut streams base (batches ++ waiting_batches 0 (take p c.args.inlets.now)) (i.put streams base batches stands) in
+    on_err c.from_residual.result (cut_queues c.args.inlets.now batches k.0 p streams base _ here at k.1 k.2)
 
 pub loop-place-preserved : goal.loop-place-preserved
 loop-place-preserved g c =

@@ -1,12 +1,13 @@
-use Rattle.std.proofs.Common.{◌≡◌, length, sym, ap, subst, arith, Some}
+use Rattle.std.proofs.Common.{◌≡◌, [], ◌∷◌, length, refl, sym, ap, subst, arith, Some}
 use Rattle.xdf_model.specs.declared.types.Shape.{Shape}
 use Rattle.xdf_model.specs.Sample.{Sample, FitsShape, least_sample_text}
 use Rattle.ring_model.specs.declared.entry.Entry.{Entry}
 use Rattle.sample_ring.specs.Seen.{RingSeen, entry_in, sample_in}
 use Rattle.record_writer.specs.Standing.{closed, with_entry}
 use Rattle.record_run.specs.FeedRings.{IsTake}
-use Rattle.run_model.proofs.Batches.{place_at}
+use Rattle.run_model.proofs.Batches.{place_at, cut_with}
 use Rattle.run_model.proofs.Texts.{text_small}
+use Rattle.record_run.proofs.Cutting.{cut_longer}
 use Rattle.record_run.proofs.ring.put_numbers.Goals as goal
 
 pub put_block-put-requires-clause-position : goal.put_block-put-requires-clause-position
@@ -54,4 +55,10 @@ returns-in-Err-clause-cut g c = λ streams base batches current st.
     let x = place_at c.args.writer.now.room.desk.places c.args.place r.shape k.2 in
     let L : Shape → Type 0 = λ s. c.in-Some.entry.value.bytes ≡ least_sample_text s e.value in
     let F : Shape → Type 0 = λ s. FitsShape s e.value in
-    (closed batches (Some (with_entry c.args.place current e.position e.value)), c.in-Err.ensures.cut streams base batches current e.value x.0 st x.1 (subst L (sym x.2) t.full.1) (subst F (sym x.2) t.full.2.0))
+    let f = c.in-Err.ensures in
+    let free = c.requires.free in
+    let one = cut_with c.args.place e streams base (g.K.Sink.held c.args.writer.now.sink.now) c.args.writer.now.room.desk batches current st free [] (e ∷ []) refl in (
+      closed batches (Some (with_entry c.args.place current e.position e.value)),
+      f.cut streams base batches current e.value x.0 st x.1 (subst L (sym x.2) t.full.1) (subst F (sym x.2) t.full.2.0),
+      cut_longer c.args.place e r.ring.queue _ _ (sym t.oldest) one,
+    )

@@ -1,8 +1,10 @@
-use Rattle.std.proofs.Common.{sym, ap, subst, Err}
+use Rattle.std.proofs.Common.{[], ◌∷◌, refl, sym, ap, subst, Err}
 use Rattle.xdf_model.specs.Sample.{Sample}
 use Rattle.inlet_ring.specs.Lone.{Lone}
 use Rattle.record_run.specs.FeedRings.{IsTake}
+use Rattle.record_writer.specs.Standing.{closed}
 use Rattle.run_model.proofs.Batches.{cut_text}
+use Rattle.record_run.proofs.Cutting.{cut_longer}
 use Rattle.record_run.proofs.ring.put_texts.Goals as goal
 
 pub returns-in-Ok-clause-out : goal.returns-in-Ok-clause-out
@@ -18,9 +20,9 @@ returns-in-Ok-clause-out g c =
     )
 
 pub returns-in-Err-clause-cut : goal.returns-in-Err-clause-cut
-returns-in-Err-clause-cut g c =
+returns-in-Err-clause-cut g c = λ streams base batches current st.
     let e = c.in-Some.entry in
     let f = c.in-Err.ensures in
-    cut_text c.args.place e.position e.value c.args.writer.now.room.desk (g.K.Sink.held c.args.writer.now.sink.now) (g.K.Sink.held c.put-put.new.self.sink.now) c.in-Err.fault
-    (λ streams base batches current st is. f.cut streams base batches current st (ap Err is))
-    (λ is. ap g.K.Sink.held (f.memory (ap Err is)).1)
+    let k = cut_text c.args.place e [] (e ∷ []) c.args.writer.now.room.desk (g.K.Sink.held c.args.writer.now.sink.now) (g.K.Sink.held c.put-put.new.self.sink.now) c.in-Err.fault refl c.requires.free
+    (λ ss b bs o at is. f.cut ss b bs o at (ap Err is)) (λ is. ap g.K.Sink.held (f.memory (ap Err is)).1) streams base batches current st in
+    (k.0, k.1, cut_longer c.args.place e c.args.ring.now.queue (closed batches current) k.0 (sym c.in-Some.ensures.oldest) k.2)

@@ -5,13 +5,14 @@ use Rattle.run_model.specs.declared.report.FeedReport.{FeedReport}
 use Rattle.plan_model.specs.declared.plan.Mode.TheVariants.{Turns}
 use Rattle.run_model.specs.Outcomes.{IsRecorded}
 use Rattle.run_model.proofs.Errors.{on_err}
-use Rattle.run_model.proofs.Batches.{cut_off}
 use Rattle.record_run.proofs.Finishing.{recorded_is}
+use Rattle.record_run.proofs.Firsts.{finish_cut_off}
 use Rattle.record_run.proofs.turns.finish.Goals as goal
 
 pub returns-in_err-written-clause-stopped : goal.returns-in_err-written-clause-stopped
 returns-in_err-written-clause-stopped g c = λ ring batch turns streams feeds base lists low some k.
-    on_err _ (cut_off streams base _ (first_turns ring batch lists turns) (c.in_err-written.ensures.cut streams base (first_turns ring batch lists turns) k.written))
+    on_err _ (finish_cut_off g.S.Source.left g.S.Source.faults g.S.Source.mark ring batch turns streams feeds base _ _ lists c.args.inlets.now k _
+    (c.in_err-written.ensures.cut streams base (first_turns ring batch lists turns) k.written))
 
 pub returns-clause-done : goal.returns-clause-done
 returns-clause-done g c = λ ring batch turns streams feeds base lists low some k.

@@ -29,8 +29,8 @@ returns-in-Ok-clause-stopped g c = λ ring streams feeds o.
     let t = c.in-Ok.ensures.turned ring streams feeds (subst R (sym c.over-writer.ensures.room) o) in
     let before : g.K.Sink.held c.over-writer.result.sink.now ≡ g.K.Sink.held c.args.sink.now = ap g.K.Sink.held c.over-writer.ensures.sink in
     let after : g.K.Sink.held c.finish.new.writer.0 ≡ g.K.Sink.held c.sink-1.given.0 = search rules in
-    let B : Option (List ℕ) → Type 0 = λ base. OnErr c.finish.result (IsCutOff streams base (g.K.Sink.held c.finish.new.writer.0)) in
-    let A : Option (List ℕ) → Type 0 = λ now. OnErr c.finish.result (IsCutOff streams (g.K.Sink.held c.args.sink.now) now) in
+    let B : Option (List ℕ) → Type 0 = λ base. OnErr c.finish.result (IsCutOff g.S.Source.left streams feeds base (g.K.Sink.held c.finish.new.writer.0)) in
+    let A : Option (List ℕ) → Type 0 = λ now. OnErr c.finish.result (IsCutOff g.S.Source.left streams feeds (g.K.Sink.held c.args.sink.now) now) in
     subst A after (subst B before (c.finish.ensures.stopped ring batch t.0 streams feeds (g.K.Sink.held c.over-writer.result.sink.now) t.1 o.low o.some t.2))
 
 pub returns-in-Err-clause-stopped : goal.returns-in-Err-clause-stopped
@@ -41,8 +41,8 @@ returns-in-Err-clause-stopped g c = λ ring streams feeds o.
     let before : g.K.Sink.held c.over-writer.result.sink.now ≡ g.K.Sink.held c.args.sink.now = ap g.K.Sink.held c.over-writer.ensures.sink in
     let let_go : g.K.Sink.held c.take_turns.new.writer.sink.now ≡ g.K.Sink.held c.let_go.new.writer.0 = ap g.K.Sink.held (sym c.let_go.ensures) in
     let after : g.K.Sink.held c.let_go.new.writer.0 ≡ g.K.Sink.held c.sink-in-Err-1.given.0 = search rules in
-    let B : Option (List ℕ) → Type 0 = λ base. IsCutOff streams base (g.K.Sink.held c.take_turns.new.writer.sink.now) in
-    let A : Option (List ℕ) → Type 0 = λ now. IsCutOff streams (g.K.Sink.held c.args.sink.now) now in
+    let B : Option (List ℕ) → Type 0 = λ base. IsCutOff g.S.Source.left streams feeds base (g.K.Sink.held c.take_turns.new.writer.sink.now) in
+    let A : Option (List ℕ) → Type 0 = λ now. IsCutOff g.S.Source.left streams feeds (g.K.Sink.held c.args.sink.now) now in
     subst A after (subst A let_go (subst B before k))
 
 pub returns-in-Err-clause-memory : goal.returns-in-Err-clause-memory

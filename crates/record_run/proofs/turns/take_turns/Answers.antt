@@ -7,8 +7,8 @@ use Rattle.record_run.specs.Turning.{AreTurned}
 use Rattle.run_model.proofs.Errors.{handed}
 use Rattle.run_model.proofs.Errors.{on_err}
 use Rattle.record_run.proofs.Stepping.{new_lists, numeric_filled, all_waiting, all_turned}
-use Rattle.record_run.proofs.Starting.{opened_turned, queues_empty, numeric_turned, not_endless, turned_cut}
-use Rattle.run_model.proofs.Batches.{cut_off}
+use Rattle.record_run.proofs.Starting.{opened_turned, queues_empty, numeric_turned, not_endless}
+use Rattle.record_run.proofs.Firsts.{begun_cut_off, turned_cut_off, queues_cut_off}
 use Rattle.record_run.proofs.turns.take_turns.Goals as goal
 
 pub loop-init : goal.loop-init
@@ -36,11 +36,16 @@ loop-init g c =
       rest = e.rest;
     }
 
+pub returns-in_err-begin-clause-cut : goal.returns-in_err-begin-clause-cut
+returns-in_err-begin-clause-cut g c = λ ring streams feeds o.
+    on_err c.from_residual.result
+    (begun_cut_off g.S.Source.left g.S.Source.faults g.S.Source.mark streams feeds _ _ o.feed_count (c.in_err-begin.ensures.cut streams o.ready))
+
 pub returns-in_err-fill_all-clause-cut : goal.returns-in_err-fill_all-clause-cut
 returns-in_err-fill_all-clause-cut g c = λ ring streams feeds o.
     let i = c.loop.invariant.turned ring streams feeds o in
     on_err c.from_residual-in_err-fill_all.result
-    (cut_off streams _ _ (first_turns ring c.args.batch i.0 c.loop.counter) (turned_cut g.S.Source.left g.S.Source.faults g.S.Source.mark ring c.args.batch c.loop.counter streams feeds _ _ c.loop.writer.room.desk i.0 c.loop.inlets i.1))
+    (turned_cut_off g.S.Source.left g.S.Source.faults g.S.Source.mark ring c.args.batch c.loop.counter streams feeds _ _ c.loop.writer.room.desk i.0 c.loop.inlets i.1)
 
 pub drain_all-requires-clause-waiting : goal.drain_all-requires-clause-waiting
 drain_all-requires-clause-waiting g c =
@@ -57,9 +62,14 @@ drain_all-requires-clause-waiting g c =
 
 pub returns-in_err-drain_all-clause-cut : goal.returns-in_err-drain_all-clause-cut
 returns-in_err-drain_all-clause-cut g c = λ ring streams feeds o.
+    let L = g.S.Source.left in
+    let F = g.S.Source.faults in
+    let M = g.S.Source.mark in
     let i = c.loop.invariant.turned ring streams feeds o in
+    let f = c.in_ok-fill_all.ensures.filled (queues_empty L F M ring c.args.batch c.loop.counter streams feeds _ _ c.loop.writer.room.desk i.0 c.loop.inlets i.1) in
     let k = c.in_err-drain_all.ensures.cut streams _ (first_turns ring c.args.batch i.0 c.loop.counter) i.1.written in
-    on_err c.from_residual-in_err-drain_all.result (cut_off streams _ _ k.0 k.1)
+    on_err c.from_residual-in_err-drain_all.result
+    (queues_cut_off L F M ring c.args.batch c.loop.counter streams feeds _ _ c.loop.writer.room.desk i.0 c.loop.inlets i.1 c.fill_all.new.inlets _ c.in_ok-fill_all.ensures.count f k)
 
 pub returns-then-have_ended-clause-turned : goal.returns-then-have_ended-clause-turned
 returns-then-have_ended-clause-turned g c = λ ring streams feeds o.

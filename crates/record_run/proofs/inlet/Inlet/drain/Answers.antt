@@ -8,7 +8,8 @@ use Rattle.record_run.specs.FeedRings.{IsOut}
 use Rattle.run_model.specs.Putting.{IsTakenAt}
 use Rattle.record_run.specs.Inlets.{InletView}
 use Rattle.run_model.proofs.Errors.{on_err}
-use Rattle.record_run.proofs.Draining.{Draining, draining_none, draining_more, taken_at, cut_one, cut_so, closed_so, drained_all}
+use Rattle.record_run.proofs.Draining.{Draining, draining_none, draining_more, taken_at, closed_so, drained_all}
+use Rattle.record_run.proofs.Cutting.{cut_one, cut_so}
 use Rattle.record_run.proofs.inlet.Inlet.drain.Goals as goal
 
 on_ok : {T E : Type 0} (r : Result T E) (P : Type 0) → P → OnOk r P
@@ -114,7 +115,7 @@ returns-clause-cut g c =
     let D : DeskState → Type 0 = λ d. Draining c.args.place c.args.self.now now before d base_held (g.K.Sink.held c.entries.writer.sink.now) in
     let H : Option (List ℕ) → Type 0 = λ h. Draining c.args.place c.args.self.now now before y.writer.room.desk base_held h in
     let d = subst H (sym o.3) (subst D (sym o.2) c.entries.invariant.draining) in
-    cut_so c.args.place c.args.self.now now before y.writer.room.desk base_held (g.K.Sink.held y.writer.sink.now) (g.K.Sink.held c.close_batch.new.self.sink.now) c.close_batch.result d c.close_batch.ensures.cut
+    cut_so c.args.place c.args.self.now now before y.writer.room.desk base_held (g.K.Sink.held y.writer.sink.now) (g.K.Sink.held c.close_batch.new.self.sink.now) c.close_batch.result d o.0 c.close_batch.ensures.cut
 
 pub returns-clause-drained : goal.returns-clause-drained
 returns-clause-drained g c =

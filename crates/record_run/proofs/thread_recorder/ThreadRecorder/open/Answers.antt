@@ -13,7 +13,7 @@ invariant_of-result g c =
       streams = c.args.streams.items;
       feeds = c.args.feeds.items;
       are = threads_for c.args.ring c.args.batch c.args.streams.items c.args.feeds.items c.in_ok-feeds.feeds c.in_ok-room.room.desk c.deref.result.now c.deref-2.result.now first second
-          c.requires.ring_low c.requires.batch_low room.ready room.places c.requires.feeds e.count e.each;
+          c.requires.ring_low c.requires.batch_low room.ready room.places c.requires.feeds e.count e.each e.halt;
     }
 
 pub returns : goal.returns
@@ -24,5 +24,5 @@ returns g c =
     let e = c.in_ok-feeds.ensures in (
       refl,
       threads_for c.args.ring c.args.batch c.args.streams.items c.args.feeds.items c.in_ok-feeds.feeds c.in_ok-room.room.desk c.deref.result.now c.deref-2.result.now first second
-          c.requires.ring_low c.requires.batch_low room.ready room.places c.requires.feeds e.count e.each,
+          c.requires.ring_low c.requires.batch_low room.ready room.places c.requires.feeds e.count e.each e.halt,
     )

@@ -18,7 +18,7 @@ returns-clause-done g c =
 pub returns-clause-stopped : goal.returns-clause-stopped
 returns-clause-stopped g c =
     let P : ThreadsRoom g.row.S.Denot → Type 0 = λ r. (ring : ℕ) (streams : List StreamDoc) (feeds : List (FeedSource g.row.S.Denot)) → AreThreadsFor ring r.batch streams feeds r.desk r.feeds
-    → IsStopped streams (g.K.Sink.held c.args.sink.now) (g.K.Sink.held c.record.new.sink) c.record.result.0 in
+    → IsStopped g.S.Source.left streams feeds (g.K.Sink.held c.args.sink.now) (g.K.Sink.held c.record.new.sink) c.record.result.0 in
     subst P c.self.view_is c.record.ensures.stopped
 
 pub returns-clause-memory : goal.returns-clause-memory
