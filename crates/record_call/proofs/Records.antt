@@ -1,8 +1,7 @@
 -- A recording by its parts.
-use Rattle.std.proofs.Common.{◌≡◌, ◌≢◌, ℕ, suc, ◌≤◌, List, [], ◌∷◌, ◌++◌, length, take, map, Option, Some, None, refl, sym, ap, ◌∙◌, subst, arith}
+use Rattle.std.proofs.Common.{◌≡◌, ◌≢◌, ℕ, suc, ◌≤◌, List, [], ◌∷◌, ◌++◌, length, map, Option, Some, None, refl, sym, ap, ◌∙◌, subst, arith}
 use Rattle.std.specs.Prelude.{slice_get}
 use Rattle.std.specs.List.{AllByRecursion, list_all, zip}
-use Rattle.std.proofs.lemmas.List.{take_all}
 use Rattle.std.proofs.lemmas.List.Folds.{list_all-map}
 use Rattle.std.specs.Io.KnownBytes.{Consumes}
 use Rattle.rec_base.specs.declared.name.Name.{Name}
@@ -17,7 +16,7 @@ use Rattle.xdf_model.specs.Sample.{Sample}
 use Rattle.chunk_grammar.specs.declared.chunk.Chunk.{Chunk}
 use Rattle.chunk_grammar.specs.Chunk.{least_file_text}
 use Rattle.inlet_model.specs.declared.end.FeedEnd.{FeedEnd}
-use Rattle.inlet_model.specs.Inlet.{feed_kind}
+use Rattle.inlet_model.specs.Inlet.{feed_kind, feed_within}
 use Rattle.plan_model.specs.declared.plan.FeedLine.{FeedLine}
 use Rattle.plan_model.specs.declared.plan.Mode.{Mode}
 use Rattle.plan_model.specs.declared.plan.Mode.TheVariants.{Threads, Turns}
@@ -27,12 +26,13 @@ use Rattle.recording_model.specs.Recording.{AreStreams}
 use Rattle.record_writer.specs.Desk.{capped}
 use Rattle.run_model.specs.declared.feed.FeedSource.{FeedSource}
 use Rattle.run_model.specs.declared.report.FeedReport.{FeedReport}
-use Rattle.run_model.specs.Run.{Fed, IsRun, feed_of, report_of}
-use Rattle.run_model.specs.Outcomes.{IsCutOff}
+use Rattle.run_model.specs.Run.{Fed, IsRun, byte_limit, feed_of, report_of}
+use Rattle.run_model.specs.Outcomes.{AreAllOf, IsCutOff}
+use Rattle.run_model.proofs.Cuts.{run_part}
 use Rattle.record_run.specs.Recorders.{RecorderView, by_turns, by_threads, IsIn, IsOpenFor}
 use Rattle.record_call.specs.Ends.{is_complete}
 use Rattle.record_call.specs.Lines.{record_lines}
-use Rattle.record_call.specs.Feeds.{document_name, feed_input, feed_name, names_of, AreEach, IsStreamOf, IsSourceOf, IsToldOf}
+use Rattle.record_call.specs.Feeds.{document_name, feed_input, feed_name, names_of, uid_from, AreEach, IsStreamOf, IsSourceOf, IsToldOf, IsWholeOf}
 use Rattle.record_call.specs.Recorded.{IsReady, IsFileOf, IsWritten, IsFileWritten, IsCut, IsCutFile, lines_of}
 use Rattle.record_call.proofs.Feeds.{each_length, zip_long}
 
@@ -125,21 +125,61 @@ module _ {S M : Type 0} (left_of : S → Option (List ℕ)) (faults_of : S → �
 
 -- ---- the file
 
--- what the output holds of a run that was stopped
-pub cut_of : (streams : List StreamDoc) (out : List ℕ) (target target' old created held' : Option (List ℕ)) → Becomes target target' out → Becomes old created [] → IsCutOff streams created held' → IsCut streams out target target' old held'
-cut_of streams out target target' old created held' becomes empty off = record {
-  created = becomes;
-  batches = off.batches;
-  chunks = off.chunks;
-  recording = off.recording;
-  front = (off.front.0, Becomes-appends old created held' [] (take off.front.0 (least_file_text off.chunks)) empty off.front.1);
+-- the samples of a feed that are all of its source are all of the text under its name
+whole_one : {S : Type 0} (left_of : S → Option (List ℕ)) (contents : Option Contents) (names : List Name) (feed : FeedLine × StreamDoc) (source : FeedSource S) (samples : List Sample)
+    → IsSourceOf left_of contents names feed source → AreAllOf left_of feed.1 source samples → IsWholeOf contents names feed samples
+whole_one left_of contents names feed source samples is all = record {
+  told = λ texts same.
+      let o = subst (λ (c : Option Contents). IsOpenedAt c names (feed_input feed) (left_of source.source)) same is.opened in
+      let F : Option (List ℕ) → Option ℕ → List Sample = λ uid limit. (feed_within uid feed.1.shape limit byte_limit o.0).0 in
+      (o.0, o.2, all o.0 o.1 ∙ ap (λ (uid : Option (List ℕ)). F uid source.limit) is.uid ∙ ap (F (uid_from feed.0.from)) is.limit);
 }
 
-pub cut_from : (streams : List StreamDoc) (out : List ℕ) (t target target' h held held' : Option (List ℕ)) → t ≡ target → h ≡ held → IsCut streams out t target' h held' → IsCut streams out target target' held held'
-cut_from streams out t target target' h held held' target_is held_is cut =
-    let T : Option (List ℕ) → Type 0 = λ o. IsCut streams out o target' h held' in
-    let H : Option (List ℕ) → Type 0 = λ o. IsCut streams out target target' o held' in
-    subst H held_is (subst T target_is cut)
+pub whole_each : {S : Type 0} (left_of : S → Option (List ℕ)) (contents : Option Contents) (names : List Name) (feeds : List FeedLine) (streams : List StreamDoc) (sources : List (FeedSource S)) (lists : List (List Sample))
+    → length streams ≡ length feeds → length lists ≡ length streams → AreEach feed_name (IsSourceOf left_of contents) names (zip feeds streams) sources
+    → ((place : ℕ) (stream : StreamDoc) (source : FeedSource S) (samples : List Sample) → slice_get streams place ≡ Some stream → slice_get sources place ≡ Some source → slice_get lists place ≡ Some samples → AreAllOf left_of stream source samples)
+    → AreEach feed_name (IsWholeOf contents) names (zip feeds streams) lists
+whole_each left_of contents names [] [] sources [] a b each all = tt
+whole_each left_of contents names [] [] sources (l ∷ lists) a b each all = absurd (omega (arith, b))
+whole_each left_of contents names [] (s ∷ streams) sources lists a b each all = absurd (omega (arith, a))
+whole_each left_of contents names (f ∷ feeds) [] sources lists a b each all = absurd (omega (arith, a))
+whole_each left_of contents names (f ∷ feeds) (s ∷ streams) sources [] a b each all = absurd (omega (arith, b))
+whole_each left_of contents names (f ∷ feeds) (s ∷ streams) [] (l ∷ lists) a b each all = absurd each
+whole_each left_of contents names (f ∷ feeds) (s ∷ streams) (x ∷ sources) (l ∷ lists) a b each all = (
+  whole_one left_of contents names (f, s) x l each.0 (all 0 s x l refl refl refl),
+  whole_each left_of contents (names ++ feed_name (f, s)) feeds streams sources lists (omega (arith, a)) (omega (arith, b)) each.1 (λ place t y m p q r. all (suc place) t y m p q r),
+)
+
+-- what the output holds of a run that was stopped
+pub cut_of : {S : Type 0} (left_of : S → Option (List ℕ)) (streams : List StreamDoc) (feeds : List (FeedSource S)) (out : List ℕ) (target target' old created held' : Option (List ℕ))
+    → Becomes target target' out → Becomes old created [] → IsCutOff left_of streams feeds created held' → IsCut left_of streams feeds out target target' old held'
+cut_of left_of streams feeds out target target' old created held' becomes empty off = record {
+  created = becomes;
+  text = off.text;
+  becomes = Becomes-appends old created held' [] off.text empty off.written;
+  part = off.part;
+}
+
+-- a recording that was ready and was stopped is of what the words ask for
+abbrev pub cut_file : {S : Type 0} (left_of : S → Option (List ℕ)) (contents : Option Contents) (words : List (List ℕ)) (target target' held held' t h : Option (List ℕ)) (out : List ℕ) (mode : Mode) (ring batch : ℕ) (streams : List StreamDoc)
+    (sources : List (FeedSource S)) → t ≡ target → h ≡ held → IsReady left_of contents words out mode ring batch streams sources → IsCut left_of streams sources out t target' h held' → IsCutFile contents words target target' held held'
+cut_file left_of contents words target target' held held' t h out mode ring batch streams sources target_is held_is r cut =
+    let T : Option (List ℕ) → Type 0 = λ o. Becomes o target' out in
+    let H : Option (List ℕ) → Type 0 = λ o. Becomes o held' cut.text in
+    record {
+      out = out;
+      plan = r.plan;
+      streams = streams;
+      asked = r.asked;
+      created = subst T target_is cut.created;
+      lists = cut.part.lists;
+      whole = record {
+        each = whole_each left_of contents _ r.plan.feeds streams sources cut.part.lists (each_length document_name (IsStreamOf contents) _ r.plan.feeds streams r.asked.has.streams_of.each) cut.part.count r.opened.each cut.part.each;
+      };
+      text = cut.text;
+      becomes = subst H held_is cut.becomes;
+      partial = cut.part.partial;
+    }
 
 module _ {S M : Type 0} (left_of : S → Option (List ℕ)) (faults_of : S → ℕ) (mark_of : S → M) (contents : Option Contents) (words : List (List ℕ)) (target target' held held' : Option (List ℕ)) where
   -- a recording that was ready and is written is the one that the words ask for
@@ -174,23 +214,24 @@ module _ {S M : Type 0} (left_of : S → Option (List ℕ)) (faults_of : S → �
         chunk_count = w.chunk_count;
       }
 
-  -- the whole file is a front of it
+  -- the whole file is one that was stopped at its end
   pub whole_cut : (fed : List (Fed S)) (chunks : List Chunk) → IsFileOf left_of faults_of mark_of contents words target target' held held' fed chunks → IsCutFile contents words target target' held held'
   whole_cut fed chunks file =
-      let text = least_file_text chunks in
-      let P : List ℕ → Type 0 = λ bs. Becomes held held' bs in
+      let r = file.recording in
+      let part = run_part left_of faults_of mark_of r.plan.mode r.plan.ring r.plan.batch r.streams r.sources fed chunks r.run in
       record {
         out = file.out;
-        plan = file.recording.plan;
-        streams = file.recording.streams;
-        asked = file.recording.asked;
-        cut = record {
-          created = file.created;
-          batches = file.recording.run.batches;
-          chunks = chunks;
-          recording = file.recording.run.recording;
-          front = (length text, subst P (sym (take_all (length text) text (omega arith))) file.text);
+        plan = r.plan;
+        streams = r.streams;
+        asked = r.asked;
+        created = file.created;
+        lists = part.lists;
+        whole = record {
+          each = whole_each left_of contents _ r.plan.feeds r.streams r.sources part.lists (each_length document_name (IsStreamOf contents) _ r.plan.feeds r.streams r.asked.has.streams_of.each) part.count r.opened.each part.each;
         };
+        text = least_file_text chunks;
+        becomes = file.text;
+        partial = part.partial;
       }
 
   -- a line leaves the file as it is

@@ -7,16 +7,17 @@ use Rattle.rec_base.specs.Contents.{Contents, Opens}
 use Rattle.rec_base.specs.Moved.{HasFailed}
 use Rattle.dock_calls.specs.Places.{place_of, IsInputAt, IsOpenedAt, IsAfter}
 use Rattle.reading_model.specs.Read.{IsReadingOf}
+use Rattle.xdf_model.specs.Sample.{Sample}
 use Rattle.xdf_model.specs.Shape.{shape_in}
 use Rattle.xdf_model.specs.declared.types.Shape.{Shape}
 use Rattle.reply_model.specs.Request.{request_bytes}
-use Rattle.inlet_model.specs.Inlet.{feed_kind}
+use Rattle.inlet_model.specs.Inlet.{feed_kind, feed_within}
 use Rattle.plan_model.specs.declared.plan.FeedFrom.{FeedFrom}
 use Rattle.plan_model.specs.declared.plan.FeedFrom.TheVariants as from
 use Rattle.plan_model.specs.declared.plan.FeedLine.{FeedLine}
 use Rattle.recording_model.specs.declared.stream.StreamDoc.{StreamDoc}
 use Rattle.run_model.specs.declared.feed.FeedSource.{FeedSource}
-use Rattle.run_model.specs.Run.{Fed, feed_of}
+use Rattle.run_model.specs.Run.{Fed, byte_limit, feed_of}
 
 -- the most bytes of a header document
 abbrev pub document_limit : ℕ
@@ -118,6 +119,14 @@ pub record IsToldOf {S : Type 0} (contents : Option Contents) (names : List Name
 
 pub record AreToldOf {S : Type 0} (contents : Option Contents) (names : List Name) (feeds : List (FeedLine × StreamDoc)) (fed : List (Fed S)) : Type 0 where
   pub each : AreEach feed_name (IsToldOf contents) names feeds fed
+
+-- where contents are told, the samples are all that the text under the feed's name gives
+pub record IsWholeOf (contents : Option Contents) (names : List Name) (feed : FeedLine × StreamDoc) (samples : List Sample) : Type 0 where
+  pub told : (texts : Contents) → contents ≡ Some texts → (text : List ℕ) × (slice_get (texts (feed_input feed)) (place_of names (feed_input feed)) ≡ Some text)
+      × (samples ≡ (feed_within (uid_from feed.0.from) feed.1.shape feed.0.limit byte_limit text).0)
+
+pub record AreWholeOf (contents : Option Contents) (names : List Name) (feeds : List (FeedLine × StreamDoc)) (lists : List (List Sample)) : Type 0 where
+  pub each : AreEach feed_name (IsWholeOf contents) names feeds lists
 
 -- ---- what calls that open some of the inputs do, whatever was opened before them
 

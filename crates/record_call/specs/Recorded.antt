@@ -3,22 +3,23 @@ use Rattle.std.specs.Prelude.{◌≡◌, ℕ, ◌<◌, ◌≤◌, List, [], ◌�
 use Rattle.std.specs.List.{zip}
 use Rattle.rec_base.specs.declared.name.Name.TheVariants as name
 use Rattle.rec_base.specs.Contents.{Contents}
-use Rattle.rec_base.specs.Known.{Becomes, BecomesFront}
+use Rattle.rec_base.specs.Known.{Becomes}
+use Rattle.xdf_model.specs.Sample.{Sample}
 use Rattle.chunk_grammar.specs.declared.chunk.Chunk.{Chunk}
 use Rattle.chunk_grammar.specs.Chunk.{least_file_text}
 use Rattle.plan_model.specs.declared.plan.Mode.{Mode}
 use Rattle.plan_model.specs.declared.plan.Plan.{Plan}
 use Rattle.recording_model.specs.declared.stream.StreamDoc.{StreamDoc}
-use Rattle.recording_model.specs.Batch.{Batch}
-use Rattle.recording_model.specs.Recording.{IsRecording}
+use Rattle.loss_model.specs.Partial.{IsPartialRecording}
 use Rattle.record_writer.specs.Desk.{capped}
 use Rattle.run_model.specs.declared.feed.FeedSource.{FeedSource}
 use Rattle.run_model.specs.declared.report.FeedReport.{FeedReport}
 use Rattle.record_run.specs.Cost.{cost_of}
 use Rattle.run_model.specs.Fitting.{AreNumbers}
 use Rattle.run_model.specs.Run.{Fed, IsRun, report_of}
+use Rattle.run_model.specs.Outcomes.{IsPartOf}
 use Rattle.plan_model.specs.Sound.{IsPlan}
-use Rattle.record_call.specs.Feeds.{document_name, names_of, AreStreamsOf, AreSourcesOf, AreToldOf, HasNoStream, HasFailedDocument}
+use Rattle.record_call.specs.Feeds.{document_name, names_of, AreStreamsOf, AreSourcesOf, AreToldOf, AreWholeOf, HasNoStream, HasFailedDocument}
 use Rattle.record_call.specs.Lines.{record_lines}
 use Rattle.record_call.specs.Plans.{IsPlanned}
 
@@ -93,21 +94,26 @@ lines_of fed chunks = record_lines (map (report_of chunks) fed) (capped (length 
 abbrev pub IsCreated : Option (List ℕ) → Option (List ℕ) → Option (List ℕ) → Option (List ℕ) → List ℕ → Type 0
 IsCreated target target' held held' out = Becomes target target' out × Becomes held held' []
 
--- the file of this name is a front of the file of some recording of these streams
-pub record IsCut (streams : List StreamDoc) (out : List ℕ) (target target' held held' : Option (List ℕ)) : Type 0 where
+-- the file of this name is part of a recording of these feeds, each being the whole of what its source would have given
+pub record IsCut {S : Type 0} (left_of : S → Option (List ℕ)) (streams : List StreamDoc) (feeds : List (FeedSource S)) (out : List ℕ) (target target' held held' : Option (List ℕ)) : Type 0 where
   pub created : Becomes target target' out
-  pub batches : List Batch
-  pub chunks : List Chunk
-  pub recording : IsRecording streams batches chunks
-  pub front : BecomesFront held held' (least_file_text chunks)
+  pub text : List ℕ
+  pub becomes : Becomes held held' text
+  pub part : IsPartOf left_of streams feeds text
 
--- the plan that the words ask for can be recorded, and the output has a front of the file of some recording of its streams
+-- the plan that the words ask for can be recorded, and the output has what a recording of its feeds holds that was stopped somewhere, each feed being
+-- all that its input holds
 pub record IsCutFile (contents : Option Contents) (words : List (List ℕ)) (target target' held held' : Option (List ℕ)) : Type 0 where
   pub out : List ℕ
   pub plan : Plan
   pub streams : List StreamDoc
   pub asked : IsAsked contents words out plan streams
-  pub cut : IsCut streams out target target' held held'
+  pub created : Becomes target target' out
+  pub lists : List (List Sample)
+  pub whole : AreWholeOf contents (name.File asked.has.path ∷ names_of document_name plan.feeds) (zip plan.feeds streams) lists
+  pub text : List ℕ
+  pub becomes : Becomes held held' text
+  pub partial : IsPartialRecording streams lists text
 
 -- the file of this name is the recording of these feeds, and what is reported is so
 pub record IsWritten {S M : Type 0} (left_of : S → Option (List ℕ)) (faults_of : S → ℕ) (mark_of : S → M) (mode : Mode) (ring batch : ℕ) (streams : List StreamDoc) (feeds : List (FeedSource S)) (out : List ℕ) (target target' held held' : Option (List ℕ)) (reports : List FeedReport) (bytes count : ℕ) : Type 0 where

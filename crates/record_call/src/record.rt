@@ -97,13 +97,16 @@ fn record<D: Dock, R: Threads + Wait + Clock + Sync>(
 /// - 3: the plan is refused: `fault 3 line N why N` with the first line that is, and the reason.
 /// - 4: an input can't be opened, the plan or a header document can't be read, or the output can't be
 ///   created. `fault 4`.
-/// - 5: the output can't be written. A front of the file may be in it. `fault 5`.
+/// - 5: the output can't be written. What is in it is part of a recording: the beginning of its magic,
+///   or whole chunks and at most a torn one behind them, which hold the first samples of each feed
+///   without those that their ledger names. By threads each inlet stops before its next sample.
+///   `fault 5`.
 /// - 6: a header document tells no shape, or has more than 1,048,576 bytes: `fault 6 feed ID` with the
 ///   first feed whose document is such.
 /// - 7: the rings cost more than 1,073,741,824 bytes: `fault 7 asked N`.
 /// - 8: the file was written, and its lines can't be said.
-/// - 9: there is no memory, also for a fault's line. `fault 9`. Where no feed has texts the output is
-///   then as it was, or whole.
+/// - 9: there is no memory, also for a fault's line. `fault 9`. The output is then as it was, or has
+///   part of a recording, as with 5; where no feed has texts it is as it was, or whole.
 ///
 /// With 2, 3, 4, 6 and 7 the output is as it was. A fault's line that can't be said changes no
 /// status.
@@ -134,7 +137,7 @@ pub fn record_main<D: Dock, R: Threads + Wait + Clock + Sync>(
         ⊎ HasFailedPlan D.Source.left D.Source.faults D.Source.mark (D.contents dock.old) words.now
         ⊎ HasUnreadDocument D.Source.left D.Source.faults D.Source.mark (D.contents dock.old) words.now }
 
-    // a write failed after the output was created, and a front of a recording's file is in it
+    // a write failed after the output was created, and what a recording of the feeds holds that was stopped somewhere is in it
     ensures write_fault { result ≡ 5 → (c : IsCutFile (D.contents dock.old) words.now (D.target dock.old) (D.target dock.new) (D.held dock.old) (D.held dock.new))
         × (created : D) × IsCreated (D.target dock.old) (D.target created) (D.held dock.old) (D.held created) c.out
         × Rose (D.write_faults created) (D.write_faults dock.new) }
@@ -151,7 +154,7 @@ pub fn record_main<D: Dock, R: Threads + Wait + Clock + Sync>(
         × IsFileOf D.Source.left D.Source.faults D.Source.mark (D.contents dock.old) words.now (D.target dock.old) (D.target dock.new) (D.held dock.old) (D.held dock.new) fed chunks
         × AppendsFront (D.printed dock.old) (D.printed dock.new) (printed_lines (lines_of fed chunks)) }
 
-    // no output was created, or a front of a recording's file is in it, which may be all of it
+    // no output was created, or such a part is in it, which may be all of it
     ensures memory { result ≡ 9 → ((D.target dock.new ≡ D.target dock.old) × (D.held dock.new ≡ D.held dock.old))
         ⊎ IsCutFile (D.contents dock.old) words.now (D.target dock.old) (D.target dock.new) (D.held dock.old) (D.held dock.new) }
 

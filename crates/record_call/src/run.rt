@@ -49,7 +49,7 @@ fn run<S: Source + Send + Drop, K: Sink, R: Threads + Wait + Clock + Sync>(
     ensures done { (ring batch : ℕ) (streams : List StreamValue) (feeds : List (FeedValue S)) → IsOpenFor mode ring batch streams feeds recorder
         → IsDone S.left S.faults S.mark mode ring batch streams feeds (K.held sink.old) (K.held sink.new) result }
     ensures stopped { (ring batch : ℕ) (streams : List StreamValue) (feeds : List (FeedValue S)) → IsOpenFor mode ring batch streams feeds recorder
-        → IsStopped streams (K.held sink.old) (K.held sink.new) result }
+        → IsStopped S.left streams feeds (K.held sink.old) (K.held sink.new) result }
     ensures memory { (ring batch : ℕ) (streams : List StreamValue) (feeds : List (FeedValue S)) → IsOpenFor mode ring batch streams feeds recorder
         → AreNumbers streams → result ≢ Outcome.Memory }
     ensures cause { result ≡ Outcome.WriteFault → Rose (K.write_faults sink.old) (K.write_faults sink.new) }
@@ -87,9 +87,9 @@ pub(crate) fn record_feeds<D: Dock, R: Threads + Wait + Clock + Sync>(
     ensures not_written { IsErrOf result RecordFault.Write → (created : D)
         × IsCreated (D.target dock.old) (D.target created) (D.held dock.old) (D.held created) out.now
         × Rose (D.write_faults created) (D.write_faults dock.new)
-        × IsCut streams.items out.now (D.target dock.old) (D.target dock.new) (D.held dock.old) (D.held dock.new) }
+        × IsCut D.Source.left streams.items feeds.items out.now (D.target dock.old) (D.target dock.new) (D.held dock.old) (D.held dock.new) }
     ensures memory { IsErrOf result RecordFault.Memory → ((D.target dock.new ≡ D.target dock.old) × (D.held dock.new ≡ D.held dock.old))
-        ⊎ IsCut streams.items out.now (D.target dock.old) (D.target dock.new) (D.held dock.old) (D.held dock.new) }
+        ⊎ IsCut D.Source.left streams.items feeds.items out.now (D.target dock.old) (D.target dock.new) (D.held dock.old) (D.held dock.new) }
     ensures numbers { IsErrOf result RecordFault.Memory → ((D.target dock.new ≡ D.target dock.old) × (D.held dock.new ≡ D.held dock.old))
         ⊎ (AreNumbers streams.items → ⊥) }
     ensures none_else { IsErr result → IsErrOf result RecordFault.Open ⊎ IsErrOf result RecordFault.Write ⊎ IsErrOf result RecordFault.Memory }

@@ -91,7 +91,9 @@ fn source(alloc: Global, file: TestFile<'_>) -> Result<(Name, MemSource), Fail> 
         },
     };
     let mut pieces = Vec::new(alloc);
-    pieces.push(Piece::Give(Blob::from_bytes(alloc, file.bytes)?))?;
+    if !file.bytes.is_empty() {
+        pieces.push(Piece::Give(Blob::from_bytes(alloc, file.bytes)?))?;
+    }
     if file.fails {
         pieces.push(Piece::Fail)?;
     }

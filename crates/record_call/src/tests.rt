@@ -6,6 +6,8 @@ const RECORD: &[&str] = &["record", "p", "out"];
 
 const RING_OF_ONE: &[u8] = b"ring 1\nbatch 3\nmode turns\nfeed 1 doc h file a\n";
 
+const LINE_OF_ONE: &str = "feed 1 received 3 kept 1 lost 2 end whole\n";
+
 const LINES_OF_ONE: &str =
     "feed 1 received 3 kept 1 lost 2 end whole\nrecorded bytes 575 chunks 7\n";
 
@@ -34,7 +36,7 @@ fn a_ring_of_one_keeps_the_last_sample_of_each_batch(rt: HostRuntime) -> Result<
     let feed = three_samples(alloc)?;
     let want = file_of_one(alloc)?;
     assert_eq!(rt; want.len(), 575);
-    for (say, status, printed) in [(0, 0, LINES_OF_ONE), (1, 8, "")] {
+    for (say, status, printed) in [(0, 0, LINES_OF_ONE), (1, 8, ""), (2, 8, LINE_OF_ONE)] {
         let files = [
             file("p", RING_OF_ONE),
             file("h", INT16_DOCUMENT),
@@ -55,19 +57,23 @@ fn a_failed_write_leaves_a_front_of_the_file(rt: HostRuntime) -> Result<(), Fail
     let alloc: Global = rt.alloc();
     let feed = three_samples(alloc)?;
     let want = file_of_one(alloc)?;
-    for write in 1..5 {
+    // The headers, the row, the sample and the footers go out in a write each.
+    for write in 1..6 {
         let files = [
             file("p", RING_OF_ONE),
             file("h", INT16_DOCUMENT),
             file("a", &feed),
         ];
         let (answer, dock) = record_on(&rt, RECORD, &files, Fails { write, ..NONE })?;
-        let is_so = answer == 5
-            && dock.target() == b"out".as_slice()
-            && dock.printed() == b"fault 5\n".as_slice()
-            && dock.held().len() < want.len()
-            && want.starts_with(dock.held());
-        assert!(rt; is_so, "{write}");
+        let is_so = if write < 5 {
+            answer == 5
+                && dock.printed() == b"fault 5\n".as_slice()
+                && dock.held().len() < want.len()
+        } else {
+            answer == 0 && dock.held().len() == want.len()
+        };
+        let front = dock.target() == b"out".as_slice() && want.starts_with(dock.held());
+        assert!(rt; is_so && front, "{write}");
     }
     Ok(())
 }
@@ -189,6 +195,28 @@ fn a_failed_read_of_one_feed_leaves_the_other(rt: HostRuntime) -> Result<(), Fai
         creates: true,
     };
     assert!(rt; records(&rt, RECORD, &files, NONE, want)?);
+    Ok(())
+}
+
+#[test]
+fn a_feed_whose_first_read_fails_is_told(rt: HostRuntime) -> Result<(), Fail> {
+    let unread = TestFile {
+        at: At::Path("a"),
+        bytes: &[],
+        fails: true,
+    };
+    for plan in [
+        RING_OF_ONE,
+        b"mode threads\nfeed 1 doc h file a\n".as_slice(),
+    ] {
+        let files = [file("p", plan), file("h", INT16_DOCUMENT), unread];
+        let want = Want {
+            status: 1,
+            printed: "feed 1 received 0 kept 0 lost 0 end read-fault\nrecorded bytes 527 chunks 5\n",
+            creates: true,
+        };
+        assert!(rt; records(&rt, RECORD, &files, NONE, want)?);
+    }
     Ok(())
 }
 

@@ -1,7 +1,7 @@
 use Rattle.std.proofs.Common.{◌≡◌, inl, inr, List, ℕ, [], subst, Option}
 use Rattle.std.proofs.lemmas.Result.{IfOk-weaker}
 use Rattle.rec_base.specs.Known.{Becomes}
-use Rattle.record_call.proofs.Records.{ready_are, ready_short, ready_some, ready_few, ready_feeds, file_written, cut_from}
+use Rattle.record_call.proofs.Records.{ready_are, ready_short, ready_some, ready_few, ready_feeds, file_written, cut_file}
 use Rattle.record_call.proofs.file.write_file.Goals as goal
 
 pub record_feeds-requires-clause-are : goal.record_feeds-requires-clause-are
@@ -29,13 +29,7 @@ returns-clause-not_written g c = λ e.
     let w = c.record_feeds.ensures.not_written e in
     let T : Option (List ℕ) → Type 0 = λ o. Becomes o (g.D.Dock.target w.0) c.in_ok-out.field-0.out.now in
     let H : Option (List ℕ) → Type 0 = λ o. Becomes o (g.D.Sink.held w.0) [] in (
-      record {
-        out = c.in_ok-out.field-0.out.now;
-        plan = c.in_ok-out.ensures.ready.plan;
-        streams = c.in_ok-out.field-0.streams.items;
-        asked = c.in_ok-out.ensures.ready.asked;
-        cut = cut_from _ _ _ _ _ _ _ _ c.in_ok-out.ensures.target c.in_ok-out.ensures.held w.3;
-      },
+      cut_file g.D.Source.Source.left (g.D.Dock.contents c.args.dock.now) c.args.words.now _ _ _ _ _ _ _ _ _ _ _ _ c.in_ok-out.ensures.target c.in_ok-out.ensures.held c.in_ok-out.ensures.ready w.3,
       w.0,
       (subst T c.in_ok-out.ensures.target w.1.0, subst H c.in_ok-out.ensures.held w.1.1),
       w.2,
@@ -58,11 +52,5 @@ returns-clause-memory g c = λ e.
     let H : Option (List ℕ) → Type 0 = λ x. g.D.Sink.held c.record_feeds.new.dock ≡ x in
     elim (c.record_feeds.ensures.memory e) [
       | inl k ↦ inl (subst T o.ensures.target k.0, subst H o.ensures.held k.1)
-      | inr k ↦ inr (record {
-        out = o.field-0.out.now;
-        plan = o.ensures.ready.plan;
-        streams = o.field-0.streams.items;
-        asked = o.ensures.ready.asked;
-        cut = cut_from _ _ _ _ _ _ _ _ o.ensures.target o.ensures.held k;
-      })
+      | inr k ↦ inr (cut_file g.D.Source.Source.left (g.D.Dock.contents c.args.dock.now) c.args.words.now _ _ _ _ _ _ _ _ _ _ _ _ o.ensures.target o.ensures.held o.ensures.ready k)
     ]

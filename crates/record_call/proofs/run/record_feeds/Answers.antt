@@ -37,7 +37,7 @@ returns-in-WriteFault-clause-not_written g c = λ _.
     let stopped = c.in-WriteFault.ensures.stopped c.args.settings.ring c.args.settings.batch c.args.streams.items c.args.feeds.items c.in_ok-recorder.ensures in
     let P : Option (List ℕ) → Type 0 = λ t. Becomes (g.D.Dock.target c.args.dock.now) t c.args.out.now in
     let target = subst P (sym (g.met.D.Dock.write_keeps_target c.create.new.self c.run.new.sink c.run.ensures.rest)) c.in-Ok.ensures.target in
-    (c.create.new.self, (c.in-Ok.ensures.target, c.in-Ok.ensures.held), c.in-WriteFault.ensures.cause refl, cut_of c.args.streams.items c.args.out.now _ _ _ _ _ target c.in-Ok.ensures.held stopped)
+    (c.create.new.self, (c.in-Ok.ensures.target, c.in-Ok.ensures.held), c.in-WriteFault.ensures.cause refl, cut_of g.D.Source.Source.left c.args.streams.items c.args.feeds.items c.args.out.now _ _ _ _ _ target c.in-Ok.ensures.held stopped)
 
 pub returns-in-WriteFault-clause-later : goal.returns-in-WriteFault-clause-later
 returns-in-WriteFault-clause-later g c = omega (arith, g.met.D.Dock.write_keeps_open_faults c.create.new.self c.run.new.sink c.run.ensures.rest, c.in-Ok.ensures.no_fault)
@@ -53,7 +53,7 @@ returns-clause-memory g c = λ _.
     let stopped = c.in-Memory.ensures.stopped c.args.settings.ring c.args.settings.batch c.args.streams.items c.args.feeds.items c.in_ok-recorder.ensures in
     let P : Option (List ℕ) → Type 0 = λ t. Becomes (g.D.Dock.target c.args.dock.now) t c.args.out.now in
     let target = subst P (sym (g.met.D.Dock.write_keeps_target c.create.new.self c.run.new.sink c.run.ensures.rest)) c.in-Ok.ensures.target in
-    inr (cut_of c.args.streams.items c.args.out.now _ _ _ _ _ target c.in-Ok.ensures.held stopped)
+    inr (cut_of g.D.Source.Source.left c.args.streams.items c.args.feeds.items c.args.out.now _ _ _ _ _ target c.in-Ok.ensures.held stopped)
 
 pub returns-clause-later : goal.returns-clause-later
 returns-clause-later g c = omega (arith, g.met.D.Dock.write_keeps_open_faults c.create.new.self c.run.new.sink c.run.ensures.rest, c.in-Ok.ensures.no_fault)
