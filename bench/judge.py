@@ -23,11 +23,16 @@ class Wrong(Exception):
     """What is wrong with a recording."""
 
 
-class Stream:
-    """A feed: what it has, and how far the file has come."""
+class Ends(Wrong):
+    """The bytes are over where more of the recording must stand; up to there nothing is wrong."""
 
-    def __init__(self, number, document, texts, end):
+
+class Stream:
+    """A feed: what it has, and how far the file has come. `most_lost` is what its ring may drop."""
+
+    def __init__(self, number, document, texts, end, ring):
         self.number, self.document, self.texts, self.end = number, document, texts, end
+        self.most_lost = max(0, len(texts) - ring)
         self.next = self.kept = self.lost = 0
 
 
@@ -47,13 +52,13 @@ def read_plan(text):
     return settings["ring"], settings["batch"], feeds
 
 
-def streams_of(feeds, base, folder):
+def streams_of(feeds, ring, base, folder):
     found = []
     for number, doc, captured, limit in feeds:
         document = (base / doc).read_bytes()
         feed = base / captured if captured else folder / f"{number}.feed"
         texts, end = expected.feed_of(feed.read_bytes(), *expected.shape(document), limit)
-        found.append(Stream(number, document, texts, end))
+        found.append(Stream(number, document, texts, end, ring))
     return found
 
 
@@ -64,8 +69,11 @@ class File:
         self.data, self.place, self.chunks, self.mark = data, 0, 0, 0
 
     def want(self, text, what):
-        if self.data[self.place:self.place + len(text)] != text:
+        found = self.data[self.place:self.place + len(text)]
+        if not text.startswith(found):
             raise Wrong(f"at {self.place} isn't {what}")
+        if len(found) < len(text):
+            raise Ends(f"the file ends before {what}" if not found else f"at {self.place} the file ends in {what}")
         self.place += len(text)
 
     def want_chunk(self, tag, content, what):
@@ -74,18 +82,30 @@ class File:
 
     def number(self, place):
         """A number of variable length, and the place behind it."""
-        width = self.data[place] if place < len(self.data) else 0
+        if place == len(self.data):
+            raise Ends(f"at {place} the file ends")
+        width = self.data[place]
         if width not in (1, 4, 8):
             raise Wrong(f"at {place} is no length")
+        if place + 1 + width > len(self.data):
+            raise Ends(f"at {place} the file ends in a length")
         return int.from_bytes(self.data[place + 1:place + 1 + width], "little"), place + 1 + width
 
-    def head(self):
-        """The tag, the stream and the place of the content of the chunk that comes next."""
+    def ends_in(self, place, fronts, what):
+        """The bytes are over; what is there from `place` on must begin one of these."""
+        found = self.data[place:]
+        if not any(front.startswith(found[:len(front)]) for front in fronts):
+            raise Wrong(f"at {place} is no {what}")
+        raise Ends(f"at {self.place} the file ends in a {what}")
+
+    def head(self, streams):
+        """The tag, the stream and the place of the content of the chunk that comes next in the body."""
         if self.place == len(self.data):
-            raise Wrong("the file ends without its footers")
+            raise Ends("the file ends without its footers")
         _, place = self.number(self.place)
         if place + 6 > len(self.data):
-            raise Wrong(f"at {self.place} the file ends in a chunk")
+            heads = [(3, 0), (6, 0), *((3, number) for number in streams)]
+            self.ends_in(place, [struct.pack("<HI", *head) for head in heads], "chunk")
         return struct.unpack_from("<HI", self.data, place) + (place + 6,)
 
     def end_chunk(self):
@@ -95,18 +115,26 @@ class File:
             self.mark = self.place
 
 
+def row_chunk(named, first, count):
+    return expected.samples_chunk(0, [expected.row(named, first, count)])
+
+
 def read_row(file, streams, at):
     """A row, which must name what comes next of a stream; and the stream."""
     _, place = file.number(at)
     if place + 25 > len(file.data):
-        raise Wrong(f"at {file.place} the file ends in a row")
+        fronts = [row_chunk(stream.number, stream.next, 1)[:-8] for stream in streams.values()]
+        file.ends_in(file.place, fronts, "row")
     named, first, count = struct.unpack_from("<qqq", file.data, place + 1)
-    file.want_chunk(3, struct.pack("<I", 0) + b"\x01\x01" + expected.row(named, first, count), "one row of the ledger")
+    file.want(row_chunk(named, first, count), "one row of the ledger")
+    file.chunks += 1
     stream = streams.get(named)
-    if stream is None or first != stream.next or count < 1:
+    if stream is None or first != stream.next or not 1 <= count < len(stream.texts) - first:
         raise Wrong(f"before {file.place} a row names {count} from {first} of stream {named}")
     stream.next += count
     stream.lost += count
+    if stream.lost > stream.most_lost:
+        raise Wrong(f"before {file.place} a row makes it {stream.lost} lost of stream {named}")
     file.end_chunk()
     return stream
 
@@ -130,7 +158,7 @@ def read_body(file, streams, batch):
     """All up to the footers; the number of rows."""
     rows, named = 0, None
     while True:
-        tag, number, at = file.head()
+        tag, number, at = file.head(streams)
         if tag != 3:
             break
         if number == 0:
@@ -148,32 +176,38 @@ def read_body(file, streams, batch):
     return rows
 
 
-def judge(plan_path, out, lines, folder=None):
-    """Raises Wrong, or answers the streams as the file has them."""
-    plan_path = Path(plan_path)
-    ring, batch, feeds = read_plan(plan_path.read_text())
-    listed = streams_of(feeds, plan_path.parent, Path(folder or plan_path.parent))
-    file = File(Path(out).read_bytes())
+def read_file(file, listed, batch):
+    """Goes over a file to its end. Raises Wrong, or answers the lines that go with it."""
     file.want(b"XDF:", "the magic")
     file.want_chunk(1, expected.VERSION, "the file's header")
     file.want_chunk(2, struct.pack("<I", 0) + expected.LEDGER, "the ledger's header")
     for stream in listed:
         file.want_chunk(2, struct.pack("<I", stream.number) + stream.document, f"the header of stream {stream.number}")
     rows = read_body(file, {stream.number: stream for stream in listed}, batch)
+    for stream in listed:
+        if stream.next != len(stream.texts):
+            raise Wrong(f"stream {stream.number}: {stream.kept} kept and {stream.lost} lost of {len(stream.texts)}")
     file.want_chunk(6, struct.pack("<I", 0) + (expected.FOOTER % (rows, 0)).encode(), "the ledger's footer")
     said = []
     for stream in listed:
         footer = (expected.FOOTER % (stream.kept, stream.lost)).encode()
         file.want_chunk(6, struct.pack("<I", stream.number) + footer, f"the footer of stream {stream.number}")
-        received = len(stream.texts)
-        if stream.next != received or stream.lost > max(0, received - ring):
-            raise Wrong(f"stream {stream.number}: {stream.kept} kept and {stream.lost} lost of {received}, ring {ring}")
-        said.append(f"feed {stream.number} received {received} kept {stream.kept} lost {stream.lost} end {stream.end}\n")
+        said.append(f"feed {stream.number} received {len(stream.texts)} kept {stream.kept} lost {stream.lost} "
+                    f"end {stream.end}\n")
     if file.place != len(file.data):
         raise Wrong(f"at {file.place} the file goes on")
     said.append(f"recorded bytes {file.place} chunks {file.chunks}\n")
-    if lines != "".join(said):
-        raise Wrong(f"the lines are\n{lines}and not\n{''.join(said)}")
+    return "".join(said)
+
+
+def judge(plan_path, out, lines, folder=None):
+    """Raises Wrong, or answers the streams as the file has them."""
+    plan_path = Path(plan_path)
+    ring, batch, feeds = read_plan(plan_path.read_text())
+    listed = streams_of(feeds, ring, plan_path.parent, Path(folder or plan_path.parent))
+    said = read_file(File(Path(out).read_bytes()), listed, batch)
+    if lines != said:
+        raise Wrong(f"the lines are\n{lines}and not\n{said}")
     return listed
 
 

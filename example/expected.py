@@ -161,19 +161,12 @@ def body(ring, batch, lists):
     return chunks, rows
 
 
-def main(plan_path, out_path=None):
-    ring, batch, feeds = read_plan(Path(plan_path).read_text())
+def recording(ring, batch, streams):
+    """The file and the lines. `streams` are an id, its document, its samples and its end each."""
     heads = [chunk(1, VERSION), chunk(2, struct.pack("<I", 0) + LEDGER)]
-    lists, ends = [], []
-    for stream, doc_path, feed_path, limit in feeds:
-        document = Path(doc_path).read_bytes()
-        texts, end = feed_of(Path(feed_path).read_bytes(), *shape(document), limit)
-        heads.append(chunk(2, struct.pack("<I", stream) + document))
-        lists.append((stream, texts))
-        ends.append(end)
-    middle, rows = body(ring, batch, lists)
-
-    out, chunks, mark = bytearray(b"XDF:" + b"".join(heads)), len(heads), 0
+    heads += [chunk(2, struct.pack("<I", stream) + document) for stream, document, _, _ in streams]
+    middle, rows = body(ring, batch, [(stream, texts) for stream, _, texts, _ in streams])
+    out, chunks, mark, lines = bytearray(b"XDF:" + b"".join(heads)), len(heads), 0, []
     for text in middle:
         out += text
         chunks += 1
@@ -182,11 +175,22 @@ def main(plan_path, out_path=None):
             chunks += 1
             mark = len(out)
     out += chunk(6, struct.pack("<I", 0) + (FOOTER % (len(rows), 0)).encode())
-    for (stream, texts), end in zip(lists, ends):
+    for stream, _, texts, end in streams:
         lost = sum(count for named, _, count in rows if named == stream)
         out += chunk(6, struct.pack("<I", stream) + (FOOTER % (len(texts) - lost, lost)).encode())
-        print(f"feed {stream} received {len(texts)} kept {len(texts) - lost} lost {lost} end {end}")
-    print(f"recorded bytes {len(out)} chunks {chunks + 1 + len(lists)}")
+        lines.append(f"feed {stream} received {len(texts)} kept {len(texts) - lost} lost {lost} end {end}\n")
+    lines.append(f"recorded bytes {len(out)} chunks {chunks + 1 + len(streams)}\n")
+    return bytes(out), "".join(lines)
+
+
+def main(plan_path, out_path=None):
+    ring, batch, feeds = read_plan(Path(plan_path).read_text())
+    streams = []
+    for stream, doc_path, feed_path, limit in feeds:
+        document = Path(doc_path).read_bytes()
+        streams.append((stream, document, *feed_of(Path(feed_path).read_bytes(), *shape(document), limit)))
+    out, lines = recording(ring, batch, streams)
+    print(lines, end="")
     if out_path:
         Path(out_path).write_bytes(out)
 
