@@ -1,8 +1,9 @@
 //! The command that the words of a command line ask for.
 
-ghost use Rattle.std.specs.Prelude.{◌≡◌, MatchResult, Ok, Err};
+ghost use Rattle.std.specs.Prelude.{◌≡◌, IsTrue, MatchResult, Ok, Err, false};
+ghost use Rattle.std.specs.Str.{bytes_eq};
 ghost use Rattle.plan_model.specs.declared.top.Top.TheVariants as tops;
-ghost use Rattle.plan_model.specs.Commands.{command_in};
+ghost use Rattle.plan_model.specs.Commands.{command_in, repair_file};
 ghost use Rattle.plan_words.specs.Commands.{IsDrillNumber, command_view};
 
 use crate::number::read_number;
@@ -22,7 +23,7 @@ pub enum Command<'w> {
     Show(&'w Word),
     /// Check the file at this path.
     Check(&'w Word),
-    /// Write what is whole of one file to another. It isn't asked for a search behind damage yet.
+    /// Write what is whole of one file to another: at its front, or, by a search, behind damage too.
     Repair {
         search: bool,
         from: &'w Word,
@@ -75,6 +76,16 @@ fn read_record(words: &[Word]) -> Result<Command<'_>, Usage>
     Ok(Command::Record { plan, out })
 }
 
+// A repair of one file into another.
+fn read_names<'w>(search: bool, from: &'w Word, to: &'w Word) -> Result<Command<'w>, Usage>
+    ensures { MatchResult result (λ command. (bytes_eq from.now to.now ≡ false) × (command_view command ≡ repair_file search from.now to.now)) (λ usage. IsTrue (bytes_eq from.now to.now) × (usage.why ≡ 5)) }
+{
+    if from.bytes() == to.bytes() {
+        return Err(Usage { why: 5 });
+    }
+    Ok(Command::Repair { search, from, to })
+}
+
 // A command for files that are there.
 #[tactic(auto, unfolding(plan_model::specs::Commands::command_in))]
 fn read_file(words: &[Word]) -> Result<Command<'_>, Usage>
@@ -96,17 +107,16 @@ fn read_file(words: &[Word]) -> Result<Command<'_>, Usage>
         return Ok(Command::Check(file));
     }
     if name.bytes() == b"repair".as_slice() {
-        let [from, to] = names else {
+        if let [_, from, to] = words {
+            return read_names(false, from, to);
+        }
+        let [_, option, from, to] = words else {
             return Err(Usage { why: 3 });
         };
-        if from.bytes() == to.bytes() {
-            return Err(Usage { why: 5 });
+        if option.bytes() != b"--search".as_slice() {
+            return Err(Usage { why: 3 });
         }
-        return Ok(Command::Repair {
-            search: false,
-            from,
-            to,
-        });
+        return read_names(true, from, to);
     }
     if name.bytes() != b"drill".as_slice() {
         return Err(Usage { why: 2 });
@@ -125,8 +135,9 @@ fn read_file(words: &[Word]) -> Result<Command<'_>, Usage>
 ///
 /// 1: there is no word. 2: the first word is no command of the call, which is `record` for
 /// [`Top::Record`], and `show`, `check`, `repair` or `drill` for [`Top::File`]. 3: the command has
-/// another number of words. 4: a drill's word isn't 1 to 7 decimal digits that write a number from 1
-/// to 1,000,000. 5: the output is the plan, or the file that is to be repaired, byte for byte.
+/// another number of words, or what stands before a repair's two names isn't `--search`. 4: a drill's
+/// word isn't 1 to 7 decimal digits that write a number from 1 to 1,000,000. 5: the output is the plan,
+/// or the file that is to be repaired, byte for byte.
 pub fn read_words(top: Top, words: &[Word]) -> Result<Command<'_>, Usage>
     ensures { MatchResult result (λ command. command_in top words.now ≡ Ok (command_view command)) (λ usage. command_in top words.now ≡ Err usage.why) }
 {
