@@ -1,5 +1,5 @@
 -- What an answer tells of the bytes from the place on.
-use Rattle.std.proofs.Common.{◌≡◌, ℕ, ◌+◌, ◌-◌, ◌≤◌, false, List, [], ◌++◌, length, take, drop, Option, refl, sym, ap, ◌∙◌, subst, append_assoc, take-append-drop, arith}
+use Rattle.std.proofs.Common.{◌≡◌, ℕ, ◌+◌, ◌-◌, ◌<◌, ◌≤◌, false, List, [], ◌++◌, length, take, drop, Option, Some, None, refl, sym, ap, ◌∙◌, subst, append_assoc, arith}
 use Rattle.std.proofs.lemmas.List.{append-nil, length-append}
 use Rattle.std.specs.Io.KnownBytes.{Consumes, IsAtEnd, Keeps}
 use Rattle.std.proofs.KnownBytes.{Consumes-nil, Consumes-trans, Consumes-kept}
@@ -7,8 +7,7 @@ use Rattle.xdf_model.specs.declared.types.Why.{Why}
 use Rattle.reading_model.specs.Reading.{Reading, done}
 use Rattle.piece_reader.specs.Steps.{Wants}
 use Rattle.chunk_grammar.specs.Chunk.{Context}
-use Rattle.chunk_grammar.specs.Standing.{torn, bad, standing_at}
-use Rattle.chunk_laws.proofs.MoreBytes.{at_more}
+use Rattle.chunk_grammar.specs.Standing.{bad, standing_at}
 use Rattle.file_model.specs.declared.end.FileEnd.{FileEnd}
 use Rattle.file_model.specs.declared.end.FileEnd.TheVariants as end
 use Rattle.file_model.specs.declared.next.Next.{Next}
@@ -16,20 +15,23 @@ use Rattle.file_model.specs.declared.next.Next.TheVariants.{Chunk, End, Torn, Ba
 use Rattle.file_model.specs.Reader.{FileState, file_rules, end_reading}
 use Rattle.file_reader.specs.FileInlet.{FileInlet, HasStopped, IsSkipped, KeepsAll, RestIs, Stops, Tells}
 use Rattle.file_reader.specs.declared.rest.Rest.{Rest}
-use Rattle.file_reader.specs.Kept.{IsOfBytes, with_more, with_reading}
+use Rattle.file_reader.specs.Kept.{IsOfBytes, IsShort, with_more, with_reading}
 use Rattle.file_reader.proofs.Passing.{seen}
-use Rattle.file_reader.proofs.Rooms.{rest_size}
+use Rattle.file_reader.proofs.Rooms.{rest_size, short_is_torn}
 
--- bytes that are taken behind a bad place change nothing
+-- what is told of the bytes that count
 pub bad_told : (now : FileInlet) (ending : Option FileEnd) (context : Context) (place last : ℕ) (bytes : List ℕ) (limit at : ℕ) (why : Why) (counted : List ℕ) → seen ending context place last bytes limit ≡ now
     → counted ≡ take (limit - place) (drop last bytes) → standing_at context counted ≡ bad at why → Tells (with_reading now (done (end.Bad (place + at) why))) (end_reading (end.Bad (place + at) why))
 bad_told now ending context place last bytes limit at why counted v is found =
-    let room = limit - place in
-    let rest = drop last bytes in
-    let front : standing_at context (take room rest) ≡ bad at why = ap (standing_at context) (sym is) ∙ found in
-    let more : standing_at context (take room rest ++ drop room rest) ≡ standing_at context (take room rest) = at_more context (take room rest) (drop room rest) (λ e. let wrong : bad at why ≡ torn = sym front ∙ e in cc) in
-    let all : standing_at context rest ≡ bad at why = ap (standing_at context) (sym (take-append-drop room rest)) ∙ more ∙ front in
-    subst (λ (x : FileInlet). Tells (with_reading x (done (end.Bad (place + at) why))) (end_reading (end.Bad (place + at) why))) v (refl, at, refl, all)
+    subst (λ (x : FileInlet). Tells (with_reading x (done (end.Bad (place + at) why))) (end_reading (end.Bad (place + at) why))) v (refl, at, refl, ap (standing_at context) (sym is) ∙ found)
+
+pub limit_told : (now : FileInlet) (ending : Option FileEnd) (context : Context) (place last : ℕ) (bytes : List ℕ) (limit : ℕ) → seen ending context place last bytes limit ≡ now → IsShort now.reading
+    → place ≤ limit → limit - place < length (drop last bytes) → Tells (with_reading now (done end.SizeLimit)) (end_reading end.SizeLimit)
+limit_told now (Some e) context place last bytes limit v short low more = absurd (subst (λ (x : FileInlet). IsShort x.reading) (sym v) short)
+limit_told now None context place last bytes limit v short low more =
+    let here : IsShort (seen None context place last bytes limit).reading = subst (λ (x : FileInlet). IsShort x.reading) (sym v) short in
+    subst (λ (x : FileInlet). Tells (with_reading x (done end.SizeLimit)) (end_reading end.SizeLimit)) v
+    (omega (arith, more, low), short_is_torn (record { context = context; place = place }) (standing_at context (take (limit - place) (drop last bytes))) here)
 
 pub fault_told : (now new : FileInlet) (next : Next) (ending : Option FileEnd) (context : Context) (place last : ℕ) (bytes : List ℕ) (limit : ℕ) → seen ending context place last bytes limit ≡ now → Wants file_rules now.reading
     → place ≤ limit → next ≡ ReadFault → new ≡ with_reading now (done end.ReadFault) → Tells new next

@@ -12,7 +12,6 @@ use Rattle.file_model.specs.declared.end.FileEnd.TheVariants.{Torn}
 use Rattle.file_model.specs.declared.next.Next.TheVariants.{Chunk}
 use Rattle.file_model.specs.Reader.{FileState, behind_chunk, by_standing, file_end, file_rules}
 use Rattle.chunk_laws.proofs.Places.{at_complete}
-use Rattle.file_model.specs.declared.next.Next.{Next}
 use Rattle.file_reader.specs.declared.passed.Passed.TheVariants as passed
 use Rattle.file_reader.specs.declared.kept.Inner.TheVariants.{Answer}
 use Rattle.file_reader.specs.FileInlet.{FileInlet}
@@ -90,7 +89,7 @@ chunk_answered now None context after place last used limit bytes rest counted c
     ) in
     subst (λ (x : FileInlet). Answers x new (Chunk place c)) v here
 
-same_chunk : (context : Context) (c : ChunkValue) (text : List ℕ) → IsChunkText context c text → chunk_of (standing_at context text) ≡ c
+pub same_chunk : (context : Context) (c : ChunkValue) (text : List ℕ) → IsChunkText context c text → chunk_of (standing_at context text) ≡ c
 same_chunk context c text is = ap chunk_of (ap (standing_at context) (sym (append-nil text)) ∙ at_complete context c text [] is)
 
 pub record ChunkPassed (now new : FileInlet) (place : ℕ) (c : ChunkValue) : Type 0 where

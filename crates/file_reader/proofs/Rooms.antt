@@ -23,7 +23,7 @@ no_last now ending context place last bytes limit v none le =
     let same : take last bytes ≡ [] = subst (λ (x : FileInlet). x.last ≡ []) (sym v) none in
     omega (arith, ap length same, length-take last bytes, le)
 
-short_is_torn : (s : FileState) (x : Standing) → by_standing s x ≡ short → x ≡ torn
+pub short_is_torn : (s : FileState) (x : Standing) → by_standing s x ≡ short → x ≡ torn
 short_is_torn s (whole c used) e = absurd cc
 short_is_torn s torn e = refl
 short_is_torn s (bad place reason) e = absurd cc

@@ -1,5 +1,5 @@
 -- What contracts see of a reader of a file. This project's own.
-use Rattle.std.specs.Prelude.{◌≡◌, ℕ, ◌+◌, ◌-◌, ◌<◌, ◌≤◌, ◌⊎◌, Bool, true, false, List, [], ◌++◌, length, Option, Some, None, IsTrue, ⊤}
+use Rattle.std.specs.Prelude.{◌≡◌, ℕ, ◌+◌, ◌-◌, ◌<◌, ◌≤◌, ◌⊎◌, Bool, true, false, List, [], ◌++◌, length, take, drop, Option, Some, None, IsTrue, ⊤}
 use Rattle.std.specs.Io.KnownBytes.{Consumes, IsAtEnd}
 use Rattle.reading_model.specs.Outlook.{Outlook, Got, item, end, nothing}
 use Rattle.reading_model.specs.Reading.{Reading, going, done, outlook_of}
@@ -58,10 +58,13 @@ abbrev pub IsSameEnd : Reading FileState FileEnd → Next → Type 0
 IsSameEnd (done e) next = next ≡ end_reading e
 IsSameEnd (going s rest room) next = ⊤
 
--- where it goes on, so many bytes are held: the last chunk's and those behind them
-abbrev pub IsHeld : List ℕ → Reading FileState FileEnd → ℕ → Type 0
-IsHeld last (done e) n = ⊤
-IsHeld last (going s rest room) n = n ≡ length last + length rest
+-- so many of the bytes that were taken were gone past, whatever they are
+abbrev pub without_front : ℕ → FileInlet → FileInlet
+without_front n x = record { context = x.context; place = x.place + n; last = []; ahead = drop n x.ahead; reading = x.reading; byte_limit = x.byte_limit }
+
+-- it goes on at the place, whatever was answered before
+abbrev pub resumed : FileInlet → FileInlet
+resumed x = record { context = x.context; place = x.place; last = x.last; ahead = x.ahead; reading = going (record { context = x.context; place = x.place }) x.ahead (x.byte_limit - x.place); byte_limit = x.byte_limit }
 
 -- the bytes that were taken are four and not the magic, or they are fewer than four and all that there were
 pub record IsNotXdf (before left : Option (List ℕ)) : Type 0 where
@@ -73,15 +76,15 @@ pub record IsNotXdf (before left : Option (List ℕ)) : Type 0 where
 abbrev pub KeepsAll : Option (List ℕ) → Option (List ℕ) → FileInlet → FileInlet → Type 0
 KeepsAll before left old new = (bytes : List ℕ) × Consumes before left bytes × (old.ahead ++ bytes ≡ new.last ++ new.ahead)
 
--- what an end tells of the bytes from the place on, as far as they were taken
+-- what an end tells of the bytes from the place on, as far as they were taken; and a fault or the limit of those of them that count
 abbrev pub Tells : FileInlet → Next → Type 0
 Tells x (Chunk at c) = ⊤
 Tells x (End at) = (x.reading ≡ done (ended.End at)) × (at ≡ x.place) × (x.ahead ≡ []) × (x.place + length x.ahead ≤ x.byte_limit)
 Tells x (Torn at left) =
-    (x.reading ≡ done (ended.Torn at left)) × (at ≡ x.place) × (left ≡ length x.ahead) × (standing_at x.context x.ahead ≡ torn) × (x.place + length x.ahead ≤ x.byte_limit)
-Tells x (Bad at why) = (x.reading ≡ done (ended.Bad at why)) × (n : ℕ) × (at ≡ x.place + n) × (standing_at x.context x.ahead ≡ bad n why)
+    (x.reading ≡ done (ended.Torn at left)) × (at ≡ x.place) × (left ≡ length x.ahead) × (standing_at x.context x.ahead ≡ torn) × (x.place + length x.ahead ≤ x.byte_limit) × (0 < left)
+Tells x (Bad at why) = (x.reading ≡ done (ended.Bad at why)) × (n : ℕ) × (at ≡ x.place + n) × (standing_at x.context (take (x.byte_limit - x.place) x.ahead) ≡ bad n why)
 Tells x ReadFault = x.place + length x.ahead ≤ x.byte_limit
-Tells x SizeLimit = x.byte_limit < x.place + length x.ahead
+Tells x SizeLimit = (x.byte_limit < x.place + length x.ahead) × (standing_at x.context (take (x.byte_limit - x.place) x.ahead) ≡ torn)
 Tells x Memory = ⊤
 
 -- the end, a torn chunk or a bad one was answered; before the first two the input had ended, within the limit

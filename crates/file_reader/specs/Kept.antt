@@ -34,6 +34,10 @@ abbrev pub IsGoing : Reading FileState FileEnd → Type 0
 IsGoing (done e) = ⊥
 IsGoing (going s rest room) = ⊤
 
+abbrev pub IsOver : Reading FileState FileEnd → Type 0
+IsOver (done e) = ⊤
+IsOver (going s rest room) = ⊥
+
 -- what stands in the bytes that count is short
 abbrev pub IsShort : Reading FileState FileEnd → Type 0
 IsShort (done e) = ⊥

@@ -9,10 +9,10 @@ ghost use Rattle.piece_reader.specs.Held.{HeldBytes};
 ghost use Rattle.piece_reader.specs.Steps.{EndsAs, Wants, end_of};
 ghost use Rattle.chunk_grammar.specs.Chunk.{Context as Streams, context_after};
 ghost use Rattle.file_model.specs.Reader.{behind_magic, end_reading, file_rules};
-ghost use Rattle.file_reader.specs.FileInlet.{FileInlet, IsHeld, StandsAt, Tells, end_in, had_ended};
+ghost use Rattle.file_reader.specs.FileInlet.{FileInlet, StandsAt, Tells, end_in, had_ended, resumed, without_front};
 ghost use Rattle.chunk_decoder.specs.Viewed.{chunk_in};
 ghost use Rattle.file_reader.specs.AsNext.{as_next, passed_end};
-ghost use Rattle.file_reader.specs.Kept.{Does, IsGoing, IsOfBytes, IsShort, Shows, Values, with_more, with_reading, without_last};
+ghost use Rattle.file_reader.specs.Kept.{Does, IsGoing, IsOfBytes, IsOver, IsShort, Shows, Values, with_more, with_reading, without_last};
 
 use crate::missing::missing;
 use crate::passed::Passed;
@@ -20,7 +20,7 @@ use chunk_decoder::{ChunkView, Viewed, view_chunk};
 use chunk_grammar::{Chunk, Context};
 use file_model::FileEnd;
 use piece_reader::{Held, PieceFault};
-use rec_base::{Memory, Source};
+use rec_base::{Failed, Memory, Source};
 use std::alloc::Global;
 use std::marker::Model;
 
@@ -67,7 +67,7 @@ impl Model for KeptFile {
     } };
 
     ghost invariant = { λ k. (k.last ≤ length k.held.bytes) × (k.place ≤ k.byte_limit) × (k.byte_limit ≤ 2 ^ 40) × (k.place + length k.held.bytes ≤ k.byte_limit + 1 + k.last)
-        × (length k.held.bytes ≤ 67_108_873) };
+        × (length k.held.bytes ≤ 67_108_873) × (65_536 ≤ k.held.places) };
 }
 
 // The bytes that count.
@@ -119,6 +119,7 @@ impl KeptFile {
         requires low { 4 ≤ byte_limit }
         requires high { byte_limit ≤ 2 ^ 40 }
         requires size { length magic.bytes ≡ 4 }
+        requires places { 65_536 ≤ magic.places }
         ensures value { result ≡ record { context = []; place = 4; last = []; ahead = []; reading = going behind_magic [] (byte_limit - 4); byte_limit = byte_limit } }
     {
         let mut held = magic;
@@ -143,7 +144,7 @@ impl KeptFile {
 
     /// How many bytes are held.
     pub(crate) fn held_bytes(&self) -> usize
-        ensures held { IsHeld self.now.last self.now.reading result }
+        ensures held { result ≡ length self.now.last + length self.now.ahead }
         ensures bound { result ≤ 67_108_873 }
     {
         self.held.bytes().len()
@@ -157,6 +158,23 @@ impl KeptFile {
     {
         let ahead = self.held.bytes().len() - self.last;
         (self.byte_limit as u64, (self.place + ahead) as u64)
+    }
+
+    /// Where the next chunk begins.
+    pub(crate) fn place(&self) -> u64
+        ensures { result ≡ self.now.place }
+    {
+        self.place as u64
+    }
+
+    /// The bytes behind the last chunk that were taken and count.
+    pub(crate) fn counted(&self) -> &[u8]
+        ensures { result.now ≡ take (self.now.byte_limit - self.now.place) self.now.ahead }
+    {
+        counted(
+            &self.held.bytes()[self.last..],
+            self.byte_limit - self.place,
+        )
     }
 
     /// Whether the input ended before the end was answered.
@@ -191,6 +209,25 @@ impl KeptFile {
     {
         self.held.pass(self.last);
         self.last = 0;
+    }
+
+    /// Goes past so many bytes that count, whatever they are.
+    pub(crate) fn leave(&mut self, count: usize)
+        requires over { IsOver self.old.reading }
+        requires fresh { self.old.last ≡ [] }
+        requires within { count ≤ length self.old.ahead }
+        requires counts { self.old.place + count ≤ self.old.byte_limit }
+        ensures { self.new ≡ without_front count self.old }
+    {
+        self.held.pass(count);
+        self.place += count;
+    }
+
+    /// Goes on at the place, whatever was answered before.
+    pub(crate) fn resume(&mut self)
+        ensures { self.new ≡ resumed self.old }
+    {
+        self.ending = None;
     }
 
     // Ends the reading.
@@ -318,5 +355,29 @@ impl KeptFile {
         let ahead = PIECE.saturating_sub(self.held.bytes().len());
         let most = room.min(ahead.max(missing(rest)));
         self.held.read(source, most)
+    }
+
+    /// Takes one piece of the source behind a few bytes that were taken, where the end was answered: as
+    /// much as a piece has room for, but no more than one byte past those that count. It takes no
+    /// memory.
+    pub(crate) fn take_behind<S: Source>(&mut self, source: &mut S) -> Result<usize, Failed>
+        requires over { IsOver self.old.reading }
+        requires fresh { self.old.last ≡ [] }
+        requires few { length self.old.ahead < 16 }
+        requires within { self.old.place + length self.old.ahead ≤ self.old.byte_limit }
+        ensures gains { IfOk result (λ n. (bytes : List ℕ) × Consumes (S.left source.old) (S.left source.new) bytes × (length bytes ≡ n) × (self.new ≡ with_more self.old bytes)) }
+        ensures end { IfOk result (λ n. n ≡ 0 → IsAtEnd (S.left source.new)) }
+        ensures kept { OnErr result (self.new ≡ self.old) }
+        ensures left { OnErr result (Keeps (S.left source.old) (S.left source.new)) }
+        ensures failed { OnErr result (Rose (S.faults source.old) (S.faults source.new)) }
+        ensures later { S.faults source.old ≤ S.faults source.new }
+        ensures marked { S.mark source.new ≡ S.mark source.old }
+    {
+        let held = self.held.bytes().len();
+        let room = self.byte_limit - self.place + 1 - held;
+        match self.held.read(source, room.min(PIECE - held)) {
+            Ok(n) => Ok(n),
+            Err(_) => Err(Failed),
+        }
     }
 }

@@ -1,17 +1,17 @@
 //! The chunks of a file, from a source.
 
-ghost use Rattle.std.specs.Prelude.{◌≡◌, ◌≤◌, ◌<◌, ◌+◌, ◌-◌, ◌^◌, ℕ, List, [], length, None, Some, IsTrue, false, IfOk, OnOk, IsErrOf};
-ghost use Rattle.std.specs.Io.KnownBytes.{Consumes, IsAtEnd};
+ghost use Rattle.std.specs.Prelude.{◌≡◌, ◌≤◌, ◌<◌, ◌+◌, ◌-◌, ◌^◌, ℕ, List, [], ◌++◌, length, take, None, Some, IsTrue, false, IfOk, OnOk, OnErr, IsErrOf};
+ghost use Rattle.std.specs.Io.KnownBytes.{Consumes, IsAtEnd, Keeps};
 ghost use Rattle.rec_base.specs.Causes.{Rose};
 ghost use Rattle.rec_base.specs.Known.{Loses};
 ghost use Rattle.rec_base.specs.Moved.{HasFailed};
 ghost use Rattle.reading_model.specs.Outlook.{Answered, How};
 ghost use Rattle.chunk_grammar.specs.Chunk.{magic};
 ghost use Rattle.file_model.specs.Reader.{file_counted, file_kind};
-ghost use Rattle.file_reader.specs.FileInlet.{HasStopped, IsGiven, IsHeld, IsNotXdf, IsSameEnd, IsSkipped, KeepsAll, StandsAt, Stops, Tells, got, had_ended, outlook};
+ghost use Rattle.file_reader.specs.FileInlet.{HasStopped, IsGiven, IsNotXdf, IsSameEnd, IsSkipped, KeepsAll, StandsAt, Stops, Tells, got, had_ended, outlook, resumed, without_front};
 ghost use Rattle.file_reader.specs.AsNext.{HasValue, next_in};
 ghost use Rattle.file_reader.specs.declared.rest.Rest.{Rest as RestValue};
-ghost use Rattle.file_reader.specs.Kept.{IsGoing, without_last};
+ghost use Rattle.file_reader.specs.Kept.{IsGoing, with_more, without_last};
 
 use crate::fault::FileFault;
 use crate::kept::{Inner, KeptFile, PIECE, passed_of};
@@ -21,7 +21,7 @@ use crate::skip::skip_source;
 use chunk_grammar::{Chunk, Context};
 use file_model::Next;
 use piece_reader::{Held, PieceFault};
-use rec_base::Source;
+use rec_base::{Failed, Source};
 use std::alloc::Global;
 
 /// Gives the chunks of a file, which comes from a source in pieces of any size, and then how the
@@ -39,6 +39,7 @@ fn take_front<S: Source>(held: &mut Held, source: &mut S) -> Result<(), PieceFau
     requires { held.old.bytes ≡ [] }
     ensures taken { OnOk result (Consumes (S.left source.old) (S.left source.new) held.new.bytes) }
     ensures size { OnOk result (length held.new.bytes ≤ 4) }
+    ensures places { held.old.places ≤ held.new.places }
     ensures end { OnOk result (length held.new.bytes < 4 → IsAtEnd (S.left source.new)) }
     ensures failed { IsErrOf result PieceFault.Failed → Rose (S.faults source.old) (S.faults source.new) }
     ensures left { Loses (S.left source.old) (S.left source.new) }
@@ -240,6 +241,125 @@ impl<S: Source> FileReader<S> {
         rest
     }
 
+    /// As `next`, where no more is read: the input counts as ended behind the bytes that were taken.
+    pub fn next_taken(&mut self) -> Next
+        ensures source { self.new.source ≡ self.old.source }
+        ensures all { self.old.file.ahead ≡ self.new.file.last ++ self.new.file.ahead }
+        ensures chunk { IsGiven self.old.file self.new.file result }
+        ensures limit { self.new.file.byte_limit ≡ self.old.file.byte_limit }
+        ensures same_end { IsTrue (outlook self.old.file).is_over → IsSameEnd self.old.file.reading result }
+        ensures tells { (outlook self.old.file).is_over ≡ false → Tells self.new.file result }
+        ensures no_fault { (outlook self.old.file).is_over ≡ false → result ≡ Next.ReadFault → ⊥ }
+        ensures high { self.new.file.byte_limit ≤ 2 ^ 40 }
+        ensures skipped { self.new.skipped ≡ self.old.skipped }
+    {
+        let (passed, value) = self.go_on_taken(true);
+        next_with(passed, value)
+    }
+
+    /// The same, with no value made of a chunk.
+    pub fn pass_taken(&mut self) -> Passed
+        ensures source { self.new.source ≡ self.old.source }
+        ensures all { self.old.file.ahead ≡ self.new.file.last ++ self.new.file.ahead }
+        ensures chunk { IsGiven self.old.file self.new.file (next_in self.old.file self.new.file result) }
+        ensures limit { self.new.file.byte_limit ≡ self.old.file.byte_limit }
+        ensures same_end { IsTrue (outlook self.old.file).is_over → IsSameEnd self.old.file.reading (next_in self.old.file self.new.file result) }
+        ensures tells { (outlook self.old.file).is_over ≡ false → Tells self.new.file (next_in self.old.file self.new.file result) }
+        ensures no_fault { (outlook self.old.file).is_over ≡ false → result ≡ Passed.ReadFault → ⊥ }
+        ensures high { self.new.file.byte_limit ≤ 2 ^ 40 }
+        ensures skipped { self.new.skipped ≡ self.old.skipped }
+    {
+        self.go_on_taken(false).0
+    }
+
+    // The answer of `pass_taken`, and the chunk's value where it is wanted.
+    fn go_on_taken(&mut self, wanted: bool) -> (Passed, Option<Chunk>)
+        ensures source { self.new.source ≡ self.old.source }
+        ensures all { self.old.file.ahead ≡ self.new.file.last ++ self.new.file.ahead }
+        ensures chunk { IsGiven self.old.file self.new.file (next_in self.old.file self.new.file result.0) }
+        ensures value { IsTrue wanted → HasValue (next_in self.old.file self.new.file result.0) result.1 }
+        ensures limit { self.new.file.byte_limit ≡ self.old.file.byte_limit }
+        ensures same_end { IsTrue (outlook self.old.file).is_over → IsSameEnd self.old.file.reading (next_in self.old.file self.new.file result.0) }
+        ensures tells { (outlook self.old.file).is_over ≡ false → Tells self.new.file (next_in self.old.file self.new.file result.0) }
+        ensures no_fault { (outlook self.old.file).is_over ≡ false → result.0 ≡ Passed.ReadFault → ⊥ }
+        ensures high { self.new.file.byte_limit ≤ 2 ^ 40 }
+        ensures skipped { self.new.skipped ≡ self.old.skipped }
+    {
+        self.file.forget();
+        if let Some(end) = self.file.ended() {
+            return (passed_of(end), None);
+        }
+        match self.file.step(wanted) {
+            Inner::Answer(passed, value) => (passed, value),
+            Inner::Want => (self.file.end_input(), None),
+        }
+    }
+
+    /// Where the next chunk begins, in bytes from the file's first one.
+    pub fn place(&self) -> u64
+        ensures { result ≡ self.now.file.place }
+    {
+        self.file.place()
+    }
+
+    /// The bytes from there on that were taken and count.
+    pub fn counted(&self) -> &[u8]
+        ensures { result.now ≡ take (self.now.file.byte_limit - self.now.file.place) self.now.file.ahead }
+    {
+        self.file.counted()
+    }
+
+    /// Whether a byte past those that count was taken.
+    pub fn is_past_limit(&self) -> bool
+        ensures past { IsTrue result → self.now.file.byte_limit < self.now.file.place + length self.now.file.ahead }
+        ensures within { result ≡ false → self.now.file.place + length self.now.file.ahead ≤ self.now.file.byte_limit }
+    {
+        let (limit, taken) = self.file.counts();
+        limit < taken
+    }
+
+    /// Goes past so many of the bytes that were taken and count, where the end was answered. They are
+    /// whatever they are, and no chunk is given of them.
+    pub fn leave(&mut self, count: usize)
+        requires over { IsTrue (outlook self.old.file).is_over }
+        requires fresh { self.old.file.last ≡ [] }
+        requires within { count ≤ length self.old.file.ahead }
+        requires counts { self.old.file.place + count ≤ self.old.file.byte_limit }
+        ensures file { self.new.file ≡ without_front count self.old.file }
+        ensures source { self.new.source ≡ self.old.source }
+        ensures skipped { self.new.skipped ≡ self.old.skipped }
+    {
+        self.file.leave(count);
+    }
+
+    /// Takes one piece of the input behind a few bytes that were taken, where the end was answered; 0
+    /// where the input has ended. It takes no memory, and reads no more than one byte past the limit.
+    pub fn take_behind(&mut self) -> Result<usize, Failed>
+        requires over { IsTrue (outlook self.old.file).is_over }
+        requires fresh { self.old.file.last ≡ [] }
+        requires few { length self.old.file.ahead < 16 }
+        requires within { self.old.file.place + length self.old.file.ahead ≤ self.old.file.byte_limit }
+        ensures gains { IfOk result (λ n. (bytes : List ℕ) × Consumes (S.left self.old.source) (S.left self.new.source) bytes × (length bytes ≡ n) × (self.new.file ≡ with_more self.old.file bytes)) }
+        ensures end { IfOk result (λ n. n ≡ 0 → IsAtEnd (S.left self.new.source)) }
+        ensures kept { OnErr result (self.new.file ≡ self.old.file) }
+        ensures left { OnErr result (Keeps (S.left self.old.source) (S.left self.new.source)) }
+        ensures failed { OnErr result (Rose (S.faults self.old.source) (S.faults self.new.source)) }
+        ensures later { S.faults self.old.source ≤ S.faults self.new.source }
+        ensures marked { S.mark self.new.source ≡ S.mark self.old.source }
+        ensures skipped { self.new.skipped ≡ self.old.skipped }
+    {
+        self.file.take_behind(&mut self.source)
+    }
+
+    /// Goes on at the place, whatever was answered before.
+    pub fn resume(&mut self)
+        ensures file { self.new.file ≡ resumed self.old.file }
+        ensures source { self.new.source ≡ self.old.source }
+        ensures skipped { self.new.skipped ≡ self.old.skipped }
+    {
+        self.file.resume();
+    }
+
     /// The bytes of the chunk that the last call of `next` or `pass` gave. There are none where it gave no chunk,
     /// or where there was no call.
     pub fn last_bytes(&self) -> &[u8]
@@ -258,7 +378,7 @@ impl<S: Source> FileReader<S> {
     /// How many bytes of the input are held: those of the last chunk and those that were taken behind
     /// it. They are no more than a chunk can have, whatever its length tells.
     pub fn held_bytes(&self) -> usize
-        ensures held { IsHeld self.now.file.last self.now.file.reading result }
+        ensures held { result ≡ length self.now.file.last + length self.now.file.ahead }
         ensures bound { result ≤ 67_108_873 }
     {
         self.file.held_bytes()

@@ -18,4 +18,5 @@ invariant_of-self g c =
       c.self.invariant.2,
       omega (arith, grows.1, none, size.1, seen, rest, c.min-most.ensures, c.self.invariant.1, c.self.invariant.3),
       omega (arith, grows.1, none, size.0, wanted, seen, rest, count, c.min-most.ensures, c.max.ensures, c.saturating_sub-ahead.ensures, c.missing.ensures.some),
+      omega (arith, c.read.ensures.places, c.self.invariant),
     )

@@ -1,5 +1,4 @@
-use Rattle.std.proofs.Common.{◌≡◌, false, refl, subst, sym, ◌∙◌}
-use Rattle.rec_base.specs.Causes.{Rose}
+use Rattle.std.proofs.Common.{refl, subst, sym, ◌∙◌}
 use Rattle.reading_model.specs.Outlook.{Answered}
 use Rattle.file_model.specs.declared.next.Next.{Next}
 use Rattle.file_model.specs.Reader.{file_kind}
