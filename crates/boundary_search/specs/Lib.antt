@@ -1,0 +1,4 @@
+pub mod Parts
+pub mod Salvage
+pub mod Searching
+pub mod Following
