@@ -1,5 +1,5 @@
 -- A repair, chunk by chunk.
-use Rattle.std.proofs.Common.{◌≡◌, ℕ, zero, suc, ◌+◌, ◌-◌, ◌≤◌, false, true, List, [], ◌∷◌, ◌++◌, length, take, Option, Result, Ok, Err, OnOk, IfErr, is_err, refl, sym, ap, ◌∙◌, subst, append_assoc, arith}
+use Rattle.std.proofs.Common.{◌≡◌, ℕ, zero, suc, ◌+◌, ◌-◌, ◌≤◌, false, true, List, [], ◌∷◌, ◌++◌, length, take, drop, take-append-drop, Option, Result, Ok, Err, OnOk, IfErr, is_err, refl, sym, ap, ◌∙◌, subst, append_assoc, arith}
 use Rattle.std.proofs.lemmas.List.{append-nil, length-append}
 use Rattle.std.proofs.Math.Seq.{take-append-add}
 use Rattle.std.specs.Io.KnownBytes.{Appends, Consumes}
@@ -34,7 +34,7 @@ are_more ctx [] c y x r t = (x, [], t, refl, ap (λ (s : List ℕ). s ++ x) r �
 are_more ctx (d ∷ cs) c y x r t = (r.0, r.1 ++ x, r.2, are_more (context_after ctx d) cs c r.1 x r.3 t, ap (λ (s : List ℕ). s ++ x) r.4 ∙ append_assoc r.0 r.1 x)
 
 -- a chunk's text has at least two bytes
-long_text : (ctx : Context) (c : ChunkValue) (u : List ℕ) → IsChunkText ctx c u → 2 ≤ length u
+pub long_text : (ctx : Context) (c : ChunkValue) (u : List ℕ) → IsChunkText ctx c u → 2 ≤ length u
 long_text ctx c u text =
     omega (arith, ap length text.whole, length-append (text.len ++ little_bytes 2 (tag_of c)) text.content, length-append text.len (little_bytes 2 (tag_of c)), length-little_bytes 2 (tag_of c))
 
@@ -44,7 +44,7 @@ take_whole : (xs : List ℕ) → take (length xs) xs ≡ xs
 take_whole [] = refl
 take_whole (x ∷ xs) = ap (λ (l : List ℕ). x ∷ l) (take_whole xs)
 
-front_all : (a b : Option (List ℕ)) (xs : List ℕ) → Appends a b xs → AppendsFront a b xs
+pub front_all : (a b : Option (List ℕ)) (xs : List ℕ) → Appends a b xs → AppendsFront a b xs
 front_all a b xs all = let P : List ℕ → Type 0 = λ t. Appends a b t in (length xs, subst P (sym (take_whole xs)) all)
 
 -- all of one text, and a front of the next
@@ -286,7 +286,11 @@ none_stands x (Chunk at chunk) t h = absurd cc
 none_stands x (End at) t h = λ more none. ended_none x more (ap (standing_at x.context) h.2 ∙ at_empty x.context) (none (ap had_ended h.0))
 none_stands x (Torn at left) t h = λ more none. ended_none x more h.3 (none (ap had_ended h.0))
 none_stands x (Bad at why) t h = λ more none.
-    bad_is_none (standing_at x.context (x.ahead ++ more)) h.1 why (at_more x.context x.ahead more (λ e. let wrong : bad h.1 why ≡ torn = sym h.3 ∙ e in cc) ∙ h.3)
+    let n = x.byte_limit - x.place in
+    let front : standing_at x.context (take n x.ahead) ≡ bad h.1 why = h.3 in
+    let all : standing_at x.context (take n x.ahead ++ (drop n x.ahead ++ more)) ≡ standing_at x.context (take n x.ahead) = at_more x.context (take n x.ahead) (drop n x.ahead ++ more) (λ e. let wrong : bad h.1 why ≡ torn = sym front ∙ e in cc) in
+    let same : take n x.ahead ++ (drop n x.ahead ++ more) ≡ x.ahead ++ more = sym (append_assoc (take n x.ahead) (drop n x.ahead) more) ∙ ap (λ (l : List ℕ). l ++ more) (take-append-drop n x.ahead) in
+    bad_is_none (standing_at x.context (x.ahead ++ more)) h.1 why (ap (standing_at x.context) (sym same) ∙ all ∙ front)
 none_stands x ReadFault t h = absurd cc
 none_stands x SizeLimit t h = absurd cc
 none_stands x Memory t h = absurd cc
@@ -338,7 +342,7 @@ module _ (a b held held' : Option (List ℕ)) (now : FileInlet) (chunks bytes : 
       subst (λ (f : Repaired). RepairedSo a b held held' limit f) is (cut_copied, omega (arith, size_copied, same, h))
   stop_so SizeLimit fault limit t same h =
       let is : repaired.SizeLimit ≡ fault = cc in
-      subst (λ (f : Repaired). RepairedSo a b held held' limit f) is (cut_copied, omega (arith, size_copied, same, h))
+      subst (λ (f : Repaired). RepairedSo a b held held' limit f) is (cut_copied, omega (arith, size_copied, same, h.0))
   stop_so Memory fault limit t same h =
       let is : repaired.Memory ≡ fault = cc in
       subst (λ (f : Repaired). RepairedSo a b held held' limit f) is cut_copied

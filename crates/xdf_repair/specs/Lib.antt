@@ -1,2 +1,4 @@
 pub mod Repair
 pub mod Copying
+pub mod Search
+pub mod Searching

@@ -8,13 +8,10 @@ ghost use Rattle.xdf_repair.specs.Copying.{IsCopied, NoneStands};
 
 use crate::repaired::Repaired;
 use crate::turn::{Turn, turn_by};
-use crate::waiting::{gather, put_behind};
+use crate::waiting::{ROOM, gather, put_behind};
 use chunk_encoder::write_all_of;
 use file_reader::FileReader;
 use rec_base::{Failed, Sink, Source};
-
-// How many bytes wait for one write at most.
-const ROOM: usize = 65_536;
 
 /// What was written: so many chunks, and so many bytes with the magic.
 #[derive(Clone, Copy)]

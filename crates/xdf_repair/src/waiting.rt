@@ -8,6 +8,9 @@ ghost use Rattle.xdf_repair.specs.Copying.{Gathers};
 use chunk_encoder::write_all_of;
 use rec_base::{Failed, Sink};
 
+/// How many bytes wait for one write at most.
+pub(crate) const ROOM: usize = 65_536;
+
 /// Puts bytes behind the first `len` of a room, and counts both.
 pub(crate) fn put_behind(room: &mut [u8], len: usize, bytes: &[u8]) -> usize
     requires { len + length bytes.now ≤ length room.old }
