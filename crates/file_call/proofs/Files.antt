@@ -60,32 +60,32 @@ told_of contents name left last rest chunks e opened lost h = λ texts told.
 module _ {S M : Type 0} {left_of : S → Option (List ℕ)} {faults_of : S → ℕ} {mark_of : S → M} {contents : Option Contents} {name : List ℕ} {source : S} {file : FileInlet} (begun : IsBegun left_of faults_of mark_of contents name source file) (last : S) where
   pub file_of : (chunks : List ChunkAt) (e : FileEnd) → IsRead left_of faults_of mark_of file_kind (outlook file).coming source last chunks e → IsFileOf left_of faults_of mark_of contents name chunks e
   file_of chunks e read =
-      let lost = Consumes-trans (left_of begun.first) (left_of source) (left_of last) magic read.taken begun.lost read.lost in
+      let lost = Consumes-trans (left_of begun.entered.first) (left_of source) (left_of last) magic read.taken begun.entered.lost read.lost in
       let ends = whole_ends (outlook file).coming begun.all (file_kind e) read.taken (left_of last) chunks e read.ends in
       record {
-        first = begun.first;
+        first = begun.entered.first;
         last = last;
-        opened = begun.opened;
+        opened = begun.entered.opened;
         read = record {
-          marked = read.marked ∙ begun.marked;
-          later = omega (arith, begun.later, read.later);
+          marked = read.marked ∙ begun.entered.marked;
+          later = omega (arith, begun.entered.later, read.later);
           taken = magic ++ read.taken;
           lost = lost;
           ends = ends;
-          cause = λ is. omega (arith, begun.later, read.cause is);
+          cause = λ is. omega (arith, begun.entered.later, read.cause is);
         };
         rest = read.taken;
         begins = refl;
-        told = told_of contents name (left_of begun.first) (left_of last) read.taken chunks e begun.opened lost ends;
+        told = told_of contents name (left_of begun.entered.first) (left_of last) read.taken chunks e begun.entered.opened lost ends;
       }
 
   file_from : (are_first : FirstLines) (taken : List ℕ) (lines : List (List ℕ)) → Consumes (left_of source) (left_of last) taken → are_first file_chunks (magic ++ taken) lines → IsFileFrom are_first left_of contents name lines
   file_from are_first taken lines lost lines_first = record {
-    first = begun.first;
+    first = begun.entered.first;
     last = last;
-    opened = begun.opened;
+    opened = begun.entered.opened;
     rest = taken;
-    lost = Consumes-trans (left_of begun.first) (left_of source) (left_of last) magic taken begun.lost lost;
+    lost = Consumes-trans (left_of begun.entered.first) (left_of source) (left_of last) magic taken begun.entered.lost lost;
     lines_first = lines_first;
   }
 

@@ -1,4 +1,5 @@
 mod Completes
+mod Damage
 mod Drills
 mod Ends
 mod Files

@@ -19,12 +19,16 @@ abbrev pub file_chunks : Reader ChunkAt FileEnd
 file_chunks b how = file_counted chunk_limit (drop 4 b) how
 
 -- the file of this name was opened, and just its magic was taken of it
-pub record IsBegun {S M : Type 0} (left_of : S → Option (List ℕ)) (faults_of : S → ℕ) (mark_of : S → M) (contents : Option Contents) (name : List ℕ) (source : S) (file : FileInlet) : Type 0 where
+pub record IsEntered {S M : Type 0} (left_of : S → Option (List ℕ)) (faults_of : S → ℕ) (mark_of : S → M) (contents : Option Contents) (name : List ℕ) (source : S) : Type 0 where
   pub first : S
   pub opened : IsOpened contents (File name) 0 (left_of first)
   pub lost : Consumes (left_of first) (left_of source) magic
   pub marked : mark_of source ≡ mark_of first
   pub later : faults_of first ≤ faults_of source
+
+-- and all its chunks are to come
+pub record IsBegun {S M : Type 0} (left_of : S → Option (List ℕ)) (faults_of : S → ℕ) (mark_of : S → M) (contents : Option Contents) (name : List ℕ) (source : S) (file : FileInlet) : Type 0 where
+  pub entered : IsEntered left_of faults_of mark_of contents name source
   pub all : (more : List ℕ) (how : How) → (outlook file).coming more how ≡ file_counted chunk_limit more how
 
 -- where contents are told, the first text at the name begins with the magic, and has these chunks and this end

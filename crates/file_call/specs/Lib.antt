@@ -3,3 +3,4 @@ pub mod Statuses
 pub mod Said
 pub mod Repaired
 pub mod Drilled
+pub mod Searched

@@ -1,6 +1,6 @@
 //! The top call.
 
-ghost use Rattle.std.specs.Prelude.{◌≡◌, ◌⊎◌, ◌↔◌, ◌++◌, [], List, ℕ, false, IsTrue, IsErr, Ok, Err, codes};
+ghost use Rattle.std.specs.Prelude.{◌≡◌, ◌⊎◌, ◌↔◌, ◌++◌, [], List, ℕ, Bool, true, IsTrue, IsErr, Ok, Err, codes};
 ghost use Rattle.std.specs.Fmt.{decimal};
 ghost use Rattle.std.specs.Io.KnownBytes.{Appends};
 ghost use Rattle.rec_base.specs.Causes.{Rose};
@@ -18,7 +18,8 @@ ghost use Rattle.report_model.specs.Shown.{AreFirstLines, show_lines, printed_li
 ghost use Rattle.dock_calls.specs.Said.{SaysFault, SaysBehind};
 ghost use Rattle.file_call.specs.Drilled.{IsDrillCut, IsDrillSaid};
 ghost use Rattle.file_call.specs.Files.{IsFileOf, IsFileFrom, IsOtherFile, IsToldOther};
-ghost use Rattle.file_call.specs.Repaired.{CompletesRepair, IsCutRepair, IsFailedRepair, IsLongRepair, IsRepaired, is_repair_status, is_repaired, repaired_line, repaired_status};
+ghost use Rattle.file_call.specs.Repaired.{CompletesRepair, is_repair_status, is_repaired, repaired_line, repaired_status};
+ghost use Rattle.file_call.specs.Searched.{GoesOverDamage, IsCut, IsFailed, IsKept, IsLong};
 ghost use Rattle.file_call.specs.Statuses.{check_status, file_status, is_check_status, is_checked, is_drill_status, is_show_status, is_shown};
 ghost use Rattle.file_call.specs.Said.{SaysSomeBehind};
 
@@ -38,6 +39,7 @@ use std::alloc::Global;
 /// - `check FILE` says what is to be noted of a file: a line for each note, and how many there are.
 /// - `repair IN OUT` writes the magic and the whole chunks at the front of a file into a new one, byte
 ///   for byte, and says how much of the file that is.
+/// - `repair --search IN OUT` does the same, and writes the whole chunks behind damage too.
 /// - `drill N` records three feeds that it makes, in memory, checks the file, and says the numbers.
 ///
 /// A file is read from its front, one chunk at a time (XDF 1.0, "File structure"); its first 2^40 bytes
@@ -136,41 +138,43 @@ pub fn file_main<D: Dock>(alloc: Global, words: &[Word], dock: &mut D) -> u8
         → (D.target dock.new ≡ D.target dock.old) × (D.held dock.new ≡ D.held dock.old) × (D.write_faults dock.new ≡ D.write_faults dock.old) }
 
     // ---- repair
-    ensures repair_statuses { (from : List ℕ) (out : List ℕ) → command_in for_files words.now ≡ Ok (repair_file false from out)
+    ensures repair_statuses { (search : Bool) (from : List ℕ) (out : List ℕ) → command_in for_files words.now ≡ Ok (repair_file search from out)
         → IsTrue (is_repair_status result) }
-    ensures repaired { (from : List ℕ) (out : List ℕ) → command_in for_files words.now ≡ Ok (repair_file false from out)
+    ensures repaired { (search : Bool) (from : List ℕ) (out : List ℕ) → command_in for_files words.now ≡ Ok (repair_file search from out)
         → IsTrue (is_repaired result) → (chunks : ℕ) × (bytes : ℕ) × (skipped : ℕ) × (result ≡ repaired_status skipped)
-        × IsRepaired D.Source.left (D.contents dock.old) from out (D.target dock.old) (D.target dock.new) (D.held dock.old) (D.held dock.new) chunks bytes skipped
+        × IsKept search D.Source.left (D.contents dock.old) from out (D.target dock.old) (D.target dock.new) (D.held dock.old) (D.held dock.new) chunks bytes skipped
         × Appends (D.printed dock.old) (D.printed dock.new) (printed_line (repaired_line chunks bytes skipped)) }
-    ensures repair_not_xdf { (from : List ℕ) (out : List ℕ) → command_in for_files words.now ≡ Ok (repair_file false from out)
+    ensures repair_not_xdf { (search : Bool) (from : List ℕ) (out : List ℕ) → command_in for_files words.now ≡ Ok (repair_file search from out)
         → result ≡ 3 → IsOtherFile D.Source.left (D.contents dock.old) from × IsToldOther (D.contents dock.old) from
         × (D.target dock.new ≡ D.target dock.old) × (D.held dock.new ≡ D.held dock.old)
         × SaysFault (D.printed dock.old) (D.printed dock.new) (D.print_faults dock.old) (D.print_faults dock.new) (codes "fault 3") }
-    ensures repair_open_fault { (from : List ℕ) (out : List ℕ) → command_in for_files words.now ≡ Ok (repair_file false from out)
+    ensures repair_open_fault { (search : Bool) (from : List ℕ) (out : List ℕ) → command_in for_files words.now ≡ Ok (repair_file search from out)
         → result ≡ 4 → (((Rose (D.open_faults dock.old) (D.open_faults dock.new)
         ⊎ ((first : D.Source) × (last : D.Source) × IsOpened (D.contents dock.old) (File from) 0 (D.Source.left first)
         × HasFailed D.Source.left D.Source.faults D.Source.mark first last))
         × (D.target dock.new ≡ D.target dock.old) × (D.held dock.new ≡ D.held dock.old))
-        ⊎ (IsFailedRepair D.Source.left D.Source.faults D.Source.mark (D.contents dock.old) from out (D.target dock.old) (D.target dock.new) (D.held dock.old) (D.held dock.new)))
+        ⊎ (IsFailed search D.Source.left D.Source.faults D.Source.mark (D.contents dock.old) from out (D.target dock.old) (D.target dock.new) (D.held dock.old) (D.held dock.new)))
         × SaysFault (D.printed dock.old) (D.printed dock.new) (D.print_faults dock.old) (D.print_faults dock.new) (codes "fault 4") }
-    ensures repair_write_fault { (from : List ℕ) (out : List ℕ) → command_in for_files words.now ≡ Ok (repair_file false from out)
+    ensures repair_write_fault { (search : Bool) (from : List ℕ) (out : List ℕ) → command_in for_files words.now ≡ Ok (repair_file search from out)
         → result ≡ 5 → ((created : D)
         × Becomes (D.target dock.old) (D.target created) out × (D.write_faults created ≡ D.write_faults dock.old) × Rose (D.write_faults created) (D.write_faults dock.new)
-        × IsCutRepair D.Source.left (D.contents dock.old) from out (D.target dock.old) (D.target dock.new) (D.held dock.old) (D.held dock.new))
+        × IsCut search D.Source.left (D.contents dock.old) from out (D.target dock.old) (D.target dock.new) (D.held dock.old) (D.held dock.new))
         × SaysFault (D.printed dock.old) (D.printed dock.new) (D.print_faults dock.old) (D.print_faults dock.new) (codes "fault 5") }
-    ensures repair_size_limit { (from : List ℕ) (out : List ℕ) → command_in for_files words.now ≡ Ok (repair_file false from out)
+    ensures repair_size_limit { (search : Bool) (from : List ℕ) (out : List ℕ) → command_in for_files words.now ≡ Ok (repair_file search from out)
         → result ≡ 7
-        → IsLongRepair D.Source.left (D.contents dock.old) from out (D.target dock.old) (D.target dock.new) (D.held dock.old) (D.held dock.new)
+        → IsLong search D.Source.left (D.contents dock.old) from out (D.target dock.old) (D.target dock.new) (D.held dock.old) (D.held dock.new)
         × SaysFault (D.printed dock.old) (D.printed dock.new) (D.print_faults dock.old) (D.print_faults dock.new) (codes "fault 7") }
-    ensures repair_say_fault { (from : List ℕ) (out : List ℕ) → command_in for_files words.now ≡ Ok (repair_file false from out)
+    ensures repair_say_fault { (search : Bool) (from : List ℕ) (out : List ℕ) → command_in for_files words.now ≡ Ok (repair_file search from out)
         → result ≡ 8 → Rose (D.print_faults dock.old) (D.print_faults dock.new) × (chunks : ℕ) × (bytes : ℕ) × (skipped : ℕ)
-        × IsRepaired D.Source.left (D.contents dock.old) from out (D.target dock.old) (D.target dock.new) (D.held dock.old) (D.held dock.new) chunks bytes skipped
+        × IsKept search D.Source.left (D.contents dock.old) from out (D.target dock.old) (D.target dock.new) (D.held dock.old) (D.held dock.new) chunks bytes skipped
         × AppendsFront (D.printed dock.old) (D.printed dock.new) (printed_line (repaired_line chunks bytes skipped)) }
-    ensures repair_memory { (from : List ℕ) (out : List ℕ) → command_in for_files words.now ≡ Ok (repair_file false from out)
+    ensures repair_memory { (search : Bool) (from : List ℕ) (out : List ℕ) → command_in for_files words.now ≡ Ok (repair_file search from out)
         → result ≡ 9 → (((D.target dock.new ≡ D.target dock.old) × (D.held dock.new ≡ D.held dock.old))
-        ⊎ IsCutRepair D.Source.left (D.contents dock.old) from out (D.target dock.old) (D.target dock.new) (D.held dock.old) (D.held dock.new))
+        ⊎ IsCut search D.Source.left (D.contents dock.old) from out (D.target dock.old) (D.target dock.new) (D.held dock.old) (D.held dock.new))
         × SaysFault (D.printed dock.old) (D.printed dock.new) (D.print_faults dock.old) (D.print_faults dock.new) (codes "fault 9") }
-    ensures repair_completes { (from : List ℕ) (out : List ℕ) → command_in for_files words.now ≡ Ok (repair_file false from out)
+    ensures search_goes_over_damage { (from : List ℕ) (out : List ℕ) → command_in for_files words.now ≡ Ok (repair_file true from out)
+        → IsTrue (is_repaired result) → GoesOverDamage (D.contents dock.old) from out (D.target dock.old) (D.target dock.new) (D.held dock.old) (D.held dock.new) (D.printed dock.old) (D.printed dock.new) result }
+    ensures repair_completes { (search : Bool) (from : List ℕ) (out : List ℕ) → command_in for_files words.now ≡ Ok (repair_file search from out)
         → CompletesRepair D.Source.left D.Source.faults D.Source.mark (D.contents dock.old) from (D.open_faults dock.old) (D.open_faults dock.new)
         (D.write_faults dock.old) (D.write_faults dock.new) (D.print_faults dock.old) (D.print_faults dock.new) result }
 
@@ -196,7 +200,7 @@ pub fn file_main<D: Dock>(alloc: Global, words: &[Word], dock: &mut D) -> u8
     match command {
         Command::Show(name) => show_status(alloc, name, dock),
         Command::Check(name) => check_status(alloc, name, dock),
-        Command::Repair { from, to, .. } => repair_status(alloc, from, to, dock),
+        Command::Repair { search, from, to } => repair_status(alloc, search, from, to, dock),
         Command::Drill(number) => drill_status(alloc, number, dock),
         Command::Record { .. } => unreachable!(),
     }

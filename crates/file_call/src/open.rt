@@ -23,7 +23,7 @@ pub(crate) fn open_file<D: Dock>(
     name: &Word,
 ) -> Result<FileReader<D::Source>, OpenFault>
     ensures begun { IfOk result (λ r. IsBegun D.Source.left D.Source.faults D.Source.mark (D.contents dock.old) name.now r.source r.file) }
-    ensures fresh { IfOk result (λ r. ((outlook r.file).is_over ≡ false) × (r.file.context ≡ []) × (r.file.place ≡ 4) × (r.file.byte_limit ≡ 1_099_511_627_776)) }
+    ensures fresh { IfOk result (λ r. ((outlook r.file).is_over ≡ false) × (r.file.context ≡ []) × (r.file.place ≡ 4) × (r.file.last ≡ []) × (r.file.byte_limit ≡ 1_099_511_627_776)) }
     ensures start { IfOk result (λ r. (r.file.ahead ≡ []) × (r.skipped ≡ None)) }
     ensures not_xdf { IsErrOf result OpenFault.NotXdf → IsOtherFile D.Source.left (D.contents dock.old) name.now }
     ensures failed { IsErrOf result OpenFault.Open → Rose (D.open_faults dock.old) (D.open_faults dock.new)

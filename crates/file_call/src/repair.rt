@@ -1,6 +1,6 @@
 //! `repair`: what is whole in a file, in another one.
 
-ghost use Rattle.std.specs.Prelude.{◌≡◌, ◌⊎◌, ℕ, IsTrue, IsErr, IsErrOf, IfOk, OnOk, codes};
+ghost use Rattle.std.specs.Prelude.{◌≡◌, ◌⊎◌, ℕ, [], None, false, IsTrue, IsErr, IsErrOf, IfOk, OnOk, codes};
 ghost use Rattle.std.specs.Io.KnownBytes.{Appends};
 ghost use Rattle.rec_base.specs.Causes.{Rose};
 ghost use Rattle.rec_base.specs.Contents.{IsOpened};
@@ -8,18 +8,22 @@ ghost use Rattle.rec_base.specs.Known.{AppendsFront, Becomes, printed_line};
 ghost use Rattle.rec_base.specs.Moved.{HasFailed};
 ghost use Rattle.rec_base.specs.declared.name.Name.TheVariants.{File};
 ghost use Rattle.dock_calls.specs.Said.{SaysFault};
+ghost use Rattle.file_reader.specs.FileInlet.{outlook};
 ghost use Rattle.file_call.specs.Files.{IsOtherFile, IsToldOther};
-ghost use Rattle.file_call.specs.Repaired.{IsCutRepair, IsFailedRepair, IsLongRepair, IsRepaired, is_repair_status, is_repaired, repaired_line, repaired_status};
+ghost use Rattle.file_call.specs.Repaired.{is_repair_status, is_repaired, repaired_line, repaired_status};
+ghost use Rattle.file_call.specs.Searched.{IsCut, IsFailed, IsKept, IsLong, WroteSo};
 
 use crate::fault::{OpenFault, RepairFault};
 use crate::open::open_file;
+use boundary_search::Salvager;
 use dock_calls::{say_fault, say_line};
+use file_reader::FileReader;
 use rec_base::{Dock, Failed, Lines, Sink, Source, Word};
 use std::alloc::Global;
-use xdf_repair::{Repaired, repair_front};
+use xdf_repair::{Repaired, repair_front, repair_search};
 
-/// What a repair kept: so many chunks, which are so many bytes with the magic. So many bytes behind
-/// them it didn't keep.
+/// What a repair kept: so many chunks, which are so many bytes with the magic. So many bytes of the
+/// file it didn't keep.
 #[derive(Clone, Copy, Debug, PartialEq, Eq)]
 pub(crate) struct Kept {
     pub(crate) chunks: u64,
@@ -27,45 +31,16 @@ pub(crate) struct Kept {
     pub(crate) skipped: u64,
 }
 
-// Opens the input, creates the output, and writes what is whole.
-fn write_kept<D: Dock>(
-    alloc: Global,
-    from: &Word,
-    to: &Word,
-    dock: &mut D,
-) -> Result<Kept, RepairFault>
-    ensures kept { IfOk result (λ k. IsRepaired D.Source.left (D.contents dock.old) from.now to.now (D.target dock.old) (D.target dock.new) (D.held dock.old) (D.held dock.new) k.chunks k.bytes k.skipped) }
-    ensures not_xdf { IsErrOf result RepairFault.NotXdf → IsOtherFile D.Source.left (D.contents dock.old) from.now }
-    ensures open { IsErrOf result RepairFault.Open → Rose (D.open_faults dock.old) (D.open_faults dock.new)
-        ⊎ ((first : D.Source) × (last : D.Source) × IsOpened (D.contents dock.old) (File from.now) 0 (D.Source.left first)
-        × HasFailed D.Source.left D.Source.faults D.Source.mark first last) }
-    ensures untouched { IsErrOf result RepairFault.NotXdf ⊎ IsErrOf result RepairFault.Open ⊎ IsErrOf result RepairFault.NoInput
-        → (D.target dock.new ≡ D.target dock.old) × (D.held dock.new ≡ D.held dock.old) × (D.write_faults dock.new ≡ D.write_faults dock.old) }
-    ensures read { IsErrOf result RepairFault.Read
-        → IsFailedRepair D.Source.left D.Source.faults D.Source.mark (D.contents dock.old) from.now to.now (D.target dock.old) (D.target dock.new) (D.held dock.old) (D.held dock.new) }
-    ensures write { IsErrOf result RepairFault.Write → (created : D)
-        × Becomes (D.target dock.old) (D.target created) to.now × (D.write_faults created ≡ D.write_faults dock.old) × Rose (D.write_faults created) (D.write_faults dock.new)
-        × IsCutRepair D.Source.left (D.contents dock.old) from.now to.now (D.target dock.old) (D.target dock.new) (D.held dock.old) (D.held dock.new) }
-    ensures size_limit { IsErrOf result RepairFault.SizeLimit
-        → IsLongRepair D.Source.left (D.contents dock.old) from.now to.now (D.target dock.old) (D.target dock.new) (D.held dock.old) (D.held dock.new) }
-    ensures memory { IsErrOf result RepairFault.Memory
-        → IsCutRepair D.Source.left (D.contents dock.old) from.now to.now (D.target dock.old) (D.target dock.new) (D.held dock.old) (D.held dock.new) }
-    ensures none_else { IsErr result → IsErrOf result RepairFault.NotXdf ⊎ IsErrOf result RepairFault.Open ⊎ IsErrOf result RepairFault.NoInput ⊎ IsErrOf result RepairFault.Read
-        ⊎ IsErrOf result RepairFault.Write ⊎ IsErrOf result RepairFault.SizeLimit ⊎ IsErrOf result RepairFault.Memory }
-    ensures printed { D.printed dock.new ≡ D.printed dock.old }
-    ensures print_faults { D.print_faults dock.new ≡ D.print_faults dock.old }
+// What was kept, or why not all that could be.
+fn kept_of(repaired: Repaired) -> Result<Kept, RepairFault>
+    ensures done { IfOk result (λ k. repaired ≡ Repaired.Done k.chunks k.bytes k.skipped) }
+    ensures read { IsErrOf result RepairFault.Read → repaired ≡ Repaired.ReadFault }
+    ensures write { IsErrOf result RepairFault.Write → repaired ≡ Repaired.WriteFault }
+    ensures size_limit { IsErrOf result RepairFault.SizeLimit → repaired ≡ Repaired.SizeLimit }
+    ensures memory { IsErrOf result RepairFault.Memory → repaired ≡ Repaired.Memory }
+    ensures none_else { IsErr result → IsErrOf result RepairFault.Read ⊎ IsErrOf result RepairFault.Write ⊎ IsErrOf result RepairFault.SizeLimit ⊎ IsErrOf result RepairFault.Memory }
 {
-    let mut reader = match open_file(alloc, dock, from) {
-        Ok(reader) => reader,
-        Err(OpenFault::NotXdf) => return Err(RepairFault::NotXdf),
-        Err(OpenFault::Open) => return Err(RepairFault::Open),
-        Err(OpenFault::Memory) => return Err(RepairFault::NoInput),
-    };
-    match dock.create(to) {
-        Ok(()) => {}
-        Err(Failed) => return Err(RepairFault::Open),
-    }
-    match repair_front(&mut reader, dock) {
+    match repaired {
         Repaired::Done {
             chunks,
             bytes,
@@ -80,6 +55,71 @@ fn write_kept<D: Dock>(
         Repaired::SizeLimit => Err(RepairFault::SizeLimit),
         Repaired::Memory => Err(RepairFault::Memory),
     }
+}
+
+// Writes what is whole in a file of which just the magic was taken: up to the first damage, or, by a
+// search, behind it too.
+fn write_whole<S: Source + Drop, K: Sink>(
+    search: bool,
+    reader: FileReader<S>,
+    sink: &mut K,
+) -> Repaired
+    requires fresh { ((outlook reader.file).is_over ≡ false) × (reader.file.context ≡ []) × (reader.file.place ≡ 4) × (reader.file.last ≡ []) × (reader.file.ahead ≡ []) × (reader.skipped ≡ None) }
+    requires limit { reader.file.byte_limit ≡ 1_099_511_627_776 }
+    ensures wrote { (last : S) × WroteSo search (S.left reader.source) (S.left last) (K.held sink.old) (K.held sink.new) 1_099_511_627_776 result
+        × (S.mark last ≡ S.mark reader.source) × (result ≡ Repaired.ReadFault → Rose (S.faults reader.source) (S.faults last)) }
+    ensures write_fault { result ≡ Repaired.WriteFault → Rose (K.write_faults sink.old) (K.write_faults sink.new) }
+    ensures rest { K.rest sink.new ≡ K.rest sink.old }
+{
+    let mut reader = reader;
+    if search {
+        let mut salvager = Salvager::over(reader);
+        return repair_search(&mut salvager, sink);
+    }
+    repair_front(&mut reader, sink)
+}
+
+// Opens the input, creates the output, and writes what is whole: up to the first damage, or behind it
+// too.
+fn write_kept<D: Dock>(
+    alloc: Global,
+    search: bool,
+    from: &Word,
+    to: &Word,
+    dock: &mut D,
+) -> Result<Kept, RepairFault>
+    ensures kept { IfOk result (λ k. IsKept search D.Source.left (D.contents dock.old) from.now to.now (D.target dock.old) (D.target dock.new) (D.held dock.old) (D.held dock.new) k.chunks k.bytes k.skipped) }
+    ensures not_xdf { IsErrOf result RepairFault.NotXdf → IsOtherFile D.Source.left (D.contents dock.old) from.now }
+    ensures open { IsErrOf result RepairFault.Open → Rose (D.open_faults dock.old) (D.open_faults dock.new)
+        ⊎ ((first : D.Source) × (last : D.Source) × IsOpened (D.contents dock.old) (File from.now) 0 (D.Source.left first)
+        × HasFailed D.Source.left D.Source.faults D.Source.mark first last) }
+    ensures untouched { IsErrOf result RepairFault.NotXdf ⊎ IsErrOf result RepairFault.Open ⊎ IsErrOf result RepairFault.NoInput
+        → (D.target dock.new ≡ D.target dock.old) × (D.held dock.new ≡ D.held dock.old) × (D.write_faults dock.new ≡ D.write_faults dock.old) }
+    ensures read { IsErrOf result RepairFault.Read
+        → IsFailed search D.Source.left D.Source.faults D.Source.mark (D.contents dock.old) from.now to.now (D.target dock.old) (D.target dock.new) (D.held dock.old) (D.held dock.new) }
+    ensures write { IsErrOf result RepairFault.Write → (created : D)
+        × Becomes (D.target dock.old) (D.target created) to.now × (D.write_faults created ≡ D.write_faults dock.old) × Rose (D.write_faults created) (D.write_faults dock.new)
+        × IsCut search D.Source.left (D.contents dock.old) from.now to.now (D.target dock.old) (D.target dock.new) (D.held dock.old) (D.held dock.new) }
+    ensures size_limit { IsErrOf result RepairFault.SizeLimit
+        → IsLong search D.Source.left (D.contents dock.old) from.now to.now (D.target dock.old) (D.target dock.new) (D.held dock.old) (D.held dock.new) }
+    ensures memory { IsErrOf result RepairFault.Memory
+        → IsCut search D.Source.left (D.contents dock.old) from.now to.now (D.target dock.old) (D.target dock.new) (D.held dock.old) (D.held dock.new) }
+    ensures none_else { IsErr result → IsErrOf result RepairFault.NotXdf ⊎ IsErrOf result RepairFault.Open ⊎ IsErrOf result RepairFault.NoInput ⊎ IsErrOf result RepairFault.Read
+        ⊎ IsErrOf result RepairFault.Write ⊎ IsErrOf result RepairFault.SizeLimit ⊎ IsErrOf result RepairFault.Memory }
+    ensures printed { D.printed dock.new ≡ D.printed dock.old }
+    ensures print_faults { D.print_faults dock.new ≡ D.print_faults dock.old }
+{
+    let reader = match open_file(alloc, dock, from) {
+        Ok(reader) => reader,
+        Err(OpenFault::NotXdf) => return Err(RepairFault::NotXdf),
+        Err(OpenFault::Open) => return Err(RepairFault::Open),
+        Err(OpenFault::Memory) => return Err(RepairFault::NoInput),
+    };
+    match dock.create(to) {
+        Ok(()) => {}
+        Err(Failed) => return Err(RepairFault::Open),
+    }
+    kept_of(write_whole(search, reader, dock))
 }
 
 // Says what was kept.
@@ -109,9 +149,15 @@ fn say_kept<D: Dock>(alloc: Global, kept: Kept, dock: &mut D) -> Result<(), Repa
 }
 
 // Repairs a file, and answers how many bytes it didn't keep.
-fn repair<D: Dock>(alloc: Global, from: &Word, to: &Word, dock: &mut D) -> Result<u64, RepairFault>
+fn repair<D: Dock>(
+    alloc: Global,
+    search: bool,
+    from: &Word,
+    to: &Word,
+    dock: &mut D,
+) -> Result<u64, RepairFault>
     ensures repaired { IfOk result (λ skipped. (chunks : ℕ) × (bytes : ℕ)
-        × IsRepaired D.Source.left (D.contents dock.old) from.now to.now (D.target dock.old) (D.target dock.new) (D.held dock.old) (D.held dock.new) chunks bytes skipped
+        × IsKept search D.Source.left (D.contents dock.old) from.now to.now (D.target dock.old) (D.target dock.new) (D.held dock.old) (D.held dock.new) chunks bytes skipped
         × Appends (D.printed dock.old) (D.printed dock.new) (printed_line (repaired_line chunks bytes skipped))) }
     ensures not_xdf { IsErrOf result RepairFault.NotXdf → IsOtherFile D.Source.left (D.contents dock.old) from.now }
     ensures open { IsErrOf result RepairFault.Open → Rose (D.open_faults dock.old) (D.open_faults dock.new)
@@ -120,20 +166,20 @@ fn repair<D: Dock>(alloc: Global, from: &Word, to: &Word, dock: &mut D) -> Resul
     ensures untouched { IsErrOf result RepairFault.NotXdf ⊎ IsErrOf result RepairFault.Open ⊎ IsErrOf result RepairFault.NoInput
         → (D.target dock.new ≡ D.target dock.old) × (D.held dock.new ≡ D.held dock.old) × (D.write_faults dock.new ≡ D.write_faults dock.old) }
     ensures read { IsErrOf result RepairFault.Read
-        → IsFailedRepair D.Source.left D.Source.faults D.Source.mark (D.contents dock.old) from.now to.now (D.target dock.old) (D.target dock.new) (D.held dock.old) (D.held dock.new) }
+        → IsFailed search D.Source.left D.Source.faults D.Source.mark (D.contents dock.old) from.now to.now (D.target dock.old) (D.target dock.new) (D.held dock.old) (D.held dock.new) }
     ensures write { IsErrOf result RepairFault.Write → (created : D)
         × Becomes (D.target dock.old) (D.target created) to.now × (D.write_faults created ≡ D.write_faults dock.old) × Rose (D.write_faults created) (D.write_faults dock.new)
-        × IsCutRepair D.Source.left (D.contents dock.old) from.now to.now (D.target dock.old) (D.target dock.new) (D.held dock.old) (D.held dock.new) }
+        × IsCut search D.Source.left (D.contents dock.old) from.now to.now (D.target dock.old) (D.target dock.new) (D.held dock.old) (D.held dock.new) }
     ensures size_limit { IsErrOf result RepairFault.SizeLimit
-        → IsLongRepair D.Source.left (D.contents dock.old) from.now to.now (D.target dock.old) (D.target dock.new) (D.held dock.old) (D.held dock.new) }
+        → IsLong search D.Source.left (D.contents dock.old) from.now to.now (D.target dock.old) (D.target dock.new) (D.held dock.old) (D.held dock.new) }
     ensures say { IsErrOf result RepairFault.Say → Rose (D.print_faults dock.old) (D.print_faults dock.new) × (chunks : ℕ) × (bytes : ℕ) × (skipped : ℕ)
-        × IsRepaired D.Source.left (D.contents dock.old) from.now to.now (D.target dock.old) (D.target dock.new) (D.held dock.old) (D.held dock.new) chunks bytes skipped
+        × IsKept search D.Source.left (D.contents dock.old) from.now to.now (D.target dock.old) (D.target dock.new) (D.held dock.old) (D.held dock.new) chunks bytes skipped
         × AppendsFront (D.printed dock.old) (D.printed dock.new) (printed_line (repaired_line chunks bytes skipped)) }
     ensures memory { IsErrOf result RepairFault.Memory
-        → IsCutRepair D.Source.left (D.contents dock.old) from.now to.now (D.target dock.old) (D.target dock.new) (D.held dock.old) (D.held dock.new) }
+        → IsCut search D.Source.left (D.contents dock.old) from.now to.now (D.target dock.old) (D.target dock.new) (D.held dock.old) (D.held dock.new) }
     ensures none_said { IsErr result → IsErrOf result RepairFault.Say ⊎ ((D.printed dock.new ≡ D.printed dock.old) × (D.print_faults dock.new ≡ D.print_faults dock.old)) }
 {
-    let kept = match write_kept(alloc, from, to, dock) {
+    let kept = match write_kept(alloc, search, from, to, dock) {
         Ok(kept) => kept,
         Err(fault) => return Err(fault),
     };
@@ -144,10 +190,16 @@ fn repair<D: Dock>(alloc: Global, from: &Word, to: &Word, dock: &mut D) -> Resul
 }
 
 /// Repairs a file, and answers the status.
-pub(crate) fn repair_status<D: Dock>(alloc: Global, from: &Word, to: &Word, dock: &mut D) -> u8
+pub(crate) fn repair_status<D: Dock>(
+    alloc: Global,
+    search: bool,
+    from: &Word,
+    to: &Word,
+    dock: &mut D,
+) -> u8
     ensures statuses { IsTrue (is_repair_status result) }
     ensures repaired { IsTrue (is_repaired result) → (chunks : ℕ) × (bytes : ℕ) × (skipped : ℕ) × (result ≡ repaired_status skipped)
-        × IsRepaired D.Source.left (D.contents dock.old) from.now to.now (D.target dock.old) (D.target dock.new) (D.held dock.old) (D.held dock.new) chunks bytes skipped
+        × IsKept search D.Source.left (D.contents dock.old) from.now to.now (D.target dock.old) (D.target dock.new) (D.held dock.old) (D.held dock.new) chunks bytes skipped
         × Appends (D.printed dock.old) (D.printed dock.new) (printed_line (repaired_line chunks bytes skipped)) }
     ensures not_xdf { result ≡ 3 → IsOtherFile D.Source.left (D.contents dock.old) from.now × IsToldOther (D.contents dock.old) from.now
         × (D.target dock.new ≡ D.target dock.old) × (D.held dock.new ≡ D.held dock.old)
@@ -156,23 +208,23 @@ pub(crate) fn repair_status<D: Dock>(alloc: Global, from: &Word, to: &Word, dock
         ⊎ ((first : D.Source) × (last : D.Source) × IsOpened (D.contents dock.old) (File from.now) 0 (D.Source.left first)
         × HasFailed D.Source.left D.Source.faults D.Source.mark first last))
         × (D.target dock.new ≡ D.target dock.old) × (D.held dock.new ≡ D.held dock.old))
-        ⊎ (IsFailedRepair D.Source.left D.Source.faults D.Source.mark (D.contents dock.old) from.now to.now (D.target dock.old) (D.target dock.new) (D.held dock.old) (D.held dock.new)))
+        ⊎ (IsFailed search D.Source.left D.Source.faults D.Source.mark (D.contents dock.old) from.now to.now (D.target dock.old) (D.target dock.new) (D.held dock.old) (D.held dock.new)))
         × SaysFault (D.printed dock.old) (D.printed dock.new) (D.print_faults dock.old) (D.print_faults dock.new) (codes "fault 4") }
     ensures write_fault { result ≡ 5 → ((created : D)
         × Becomes (D.target dock.old) (D.target created) to.now × (D.write_faults created ≡ D.write_faults dock.old) × Rose (D.write_faults created) (D.write_faults dock.new)
-        × IsCutRepair D.Source.left (D.contents dock.old) from.now to.now (D.target dock.old) (D.target dock.new) (D.held dock.old) (D.held dock.new))
+        × IsCut search D.Source.left (D.contents dock.old) from.now to.now (D.target dock.old) (D.target dock.new) (D.held dock.old) (D.held dock.new))
         × SaysFault (D.printed dock.old) (D.printed dock.new) (D.print_faults dock.old) (D.print_faults dock.new) (codes "fault 5") }
     ensures size_limit { result ≡ 7
-        → IsLongRepair D.Source.left (D.contents dock.old) from.now to.now (D.target dock.old) (D.target dock.new) (D.held dock.old) (D.held dock.new)
+        → IsLong search D.Source.left (D.contents dock.old) from.now to.now (D.target dock.old) (D.target dock.new) (D.held dock.old) (D.held dock.new)
         × SaysFault (D.printed dock.old) (D.printed dock.new) (D.print_faults dock.old) (D.print_faults dock.new) (codes "fault 7") }
     ensures say_fault { result ≡ 8 → Rose (D.print_faults dock.old) (D.print_faults dock.new) × (chunks : ℕ) × (bytes : ℕ) × (skipped : ℕ)
-        × IsRepaired D.Source.left (D.contents dock.old) from.now to.now (D.target dock.old) (D.target dock.new) (D.held dock.old) (D.held dock.new) chunks bytes skipped
+        × IsKept search D.Source.left (D.contents dock.old) from.now to.now (D.target dock.old) (D.target dock.new) (D.held dock.old) (D.held dock.new) chunks bytes skipped
         × AppendsFront (D.printed dock.old) (D.printed dock.new) (printed_line (repaired_line chunks bytes skipped)) }
     ensures memory { result ≡ 9 → (((D.target dock.new ≡ D.target dock.old) × (D.held dock.new ≡ D.held dock.old))
-        ⊎ IsCutRepair D.Source.left (D.contents dock.old) from.now to.now (D.target dock.old) (D.target dock.new) (D.held dock.old) (D.held dock.new))
+        ⊎ IsCut search D.Source.left (D.contents dock.old) from.now to.now (D.target dock.old) (D.target dock.new) (D.held dock.old) (D.held dock.new))
         × SaysFault (D.printed dock.old) (D.printed dock.new) (D.print_faults dock.old) (D.print_faults dock.new) (codes "fault 9") }
 {
-    match repair(alloc, from, to, dock) {
+    match repair(alloc, search, from, to, dock) {
         Ok(0) => 0,
         Ok(_) => 1,
         Err(RepairFault::NotXdf) => {

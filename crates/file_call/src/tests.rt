@@ -23,6 +23,20 @@ const REPEATED: &[u8] =
 // Samples of a stream that has no header.
 const UNDECLARED: &[u8] = b"XDF:\x01\x0B\x03\0\x01\0\0\0\x01\x01\0\x05\0";
 
+// A recording of one feed: two headers, a sample, a boundary and a sample. The width of the first
+// sample's chunk is wrong.
+const DAMAGED: &[u8] =
+    b"XDF:\x01\x3A\x01\0<?xml version=\"1.0\"?><info><version>1.0</version></info>\x01\x59\x02\0\x01\0\0\0<info><channel_count>1</channel_count><channel_format>int16</channel_format></info>\0\x0B\x03\0\x01\0\0\0\x01\x01\0\x01\0\x01\x12\x05\0\x43\xA5\x46\xDC\xCB\xF5\x41\x0F\xB3\x0E\xD5\x46\x73\x83\xCB\xE4\x01\x0B\x03\0\x01\0\0\0\x01\x01\0\x02\0";
+
+// What a search keeps of it: the headers and the second sample.
+const SALVAGED: &[u8] =
+    b"XDF:\x01\x3A\x01\0<?xml version=\"1.0\"?><info><version>1.0</version></info>\x01\x59\x02\0\x01\0\0\0<info><channel_count>1</channel_count><channel_format>int16</channel_format></info>\x01\x0B\x03\0\x01\0\0\0\x01\x01\0\x02\0";
+
+// A chunk of the greatest length, of which two bytes are there, and one whose length is greater by one.
+const LONGEST: &[u8] = b"XDF:\x04\0\0\0\x04\x01\0";
+
+const TOO_LONG: &[u8] = b"XDF:\x04\x01\0\0\x04\x01\0";
+
 // The lines of the recording's headers, of all its chunks, and the last one.
 const HEADER_LINES: &str =
     "4 file-header bytes 56\n64 stream-header id 0 channels 3 format int64 bytes 176\n248 stream-header id 1 channels 1 format int16 bytes 83\n";
@@ -51,6 +65,8 @@ const SHOW: &[&str] = &["show", "f"];
 const CHECK: &[&str] = &["check", "f"];
 
 const REPAIR: &[&str] = &["repair", "f", "out"];
+
+const SEARCH: &[&str] = &["repair", "--search", "f", "out"];
 
 // A command on a dock with the file `f` of these bytes, whose file `torn` can't be read behind them.
 fn run_on(
@@ -149,8 +165,13 @@ fn a_file_is_shown_up_to_where_it_is_cut(rt: HostRuntime) -> Result<(), Fail> {
             "4 stream-header id 1 channels 1 format int16 bytes 83\nbad 99 why 6\n",
         ),
         (UNDECLARED, 6, "bad 8 why 5\n"),
-        (b"XDF:\x04\x01\0\0\x04\x01\0".as_slice(), 6, "bad 4 why 3\n"),
-        (b"XDF:\x04\0\0\0\x04\x01\0".as_slice(), 1, "torn 4 left 7\n"),
+        (
+            b"XDF:\x08\xFF\xFF\xFF\xFF\xFF\xFF\xFF\xFF\x03\0".as_slice(),
+            6,
+            "bad 4 why 3\n",
+        ),
+        (TOO_LONG, 6, "bad 4 why 3\n"),
+        (LONGEST, 1, "torn 4 left 7\n"),
     ] {
         let as_told = reports(rt.alloc(), SHOW, bytes, NONE, status, &[printed])?;
         assert!(rt; as_told, "{printed}");
@@ -194,6 +215,40 @@ fn whole_chunks_are_kept(rt: HostRuntime) -> Result<(), Fail> {
 }
 
 #[test]
+fn whole_chunks_behind_damage_are_kept(rt: HostRuntime) -> Result<(), Fail> {
+    let headers = DAMAGED.get(..155).unwrap_or(&[]);
+    assert!(rt; DAMAGED.len() == 201 && SALVAGED.len() == 168);
+    for (words, bytes, status, line, kept) in [
+        (REPAIR, DAMAGED, 1, "kept 2 bytes 155 skipped 46\n", headers),
+        (
+            SEARCH,
+            DAMAGED,
+            1,
+            "kept 3 bytes 168 skipped 33\n",
+            SALVAGED,
+        ),
+        (
+            SEARCH,
+            TOO_LONG,
+            1,
+            "kept 0 bytes 4 skipped 7\n",
+            b"XDF:".as_slice(),
+        ),
+        (
+            SEARCH,
+            RECORDING,
+            0,
+            "kept 7 bytes 575 skipped 0\n",
+            RECORDING,
+        ),
+    ] {
+        let as_told = repairs(rt.alloc(), words, bytes, NONE, status, line, kept)?;
+        assert!(rt; as_told, "{line}");
+    }
+    Ok(())
+}
+
+#[test]
 fn each_fault_has_its_status_and_line(rt: HostRuntime) -> Result<(), Fail> {
     let opening = Fails { open: 1, ..NONE };
     let creating = Fails { open: 2, ..NONE };
@@ -204,6 +259,24 @@ fn each_fault_has_its_status_and_line(rt: HostRuntime) -> Result<(), Fail> {
         (["frob"].as_slice(), NONE, 2, "fault 2 usage 2\n"),
         (["record", "p"].as_slice(), NONE, 2, "fault 2 usage 2\n"),
         (["show", "a", "b"].as_slice(), NONE, 2, "fault 2 usage 3\n"),
+        (
+            ["repair", "a", "b", "c"].as_slice(),
+            NONE,
+            2,
+            "fault 2 usage 3\n",
+        ),
+        (
+            ["repair", "--find", "f", "out"].as_slice(),
+            NONE,
+            2,
+            "fault 2 usage 3\n",
+        ),
+        (
+            ["repair", "--search", "a", "b", "c"].as_slice(),
+            NONE,
+            2,
+            "fault 2 usage 3\n",
+        ),
         (["drill", "0"].as_slice(), NONE, 2, "fault 2 usage 4\n"),
         (
             ["repair", "a", "a"].as_slice(),
@@ -211,13 +284,26 @@ fn each_fault_has_its_status_and_line(rt: HostRuntime) -> Result<(), Fail> {
             2,
             "fault 2 usage 5\n",
         ),
+        (
+            ["repair", "--search", "a", "a"].as_slice(),
+            NONE,
+            2,
+            "fault 2 usage 5\n",
+        ),
         (["show", "x"].as_slice(), NONE, 4, "fault 4\n"),
         (["check", "x"].as_slice(), NONE, 4, "fault 4\n"),
         (["repair", "x", "out"].as_slice(), NONE, 4, "fault 4\n"),
+        (
+            ["repair", "--search", "x", "out"].as_slice(),
+            NONE,
+            4,
+            "fault 4\n",
+        ),
         (SHOW, opening, 4, "fault 4\n"),
         (CHECK, opening, 4, "fault 4\n"),
         (REPAIR, opening, 4, "fault 4\n"),
         (REPAIR, creating, 4, "fault 4\n"),
+        (SEARCH, creating, 4, "fault 4\n"),
         (SHOW, first_say, 8, ""),
         (SHOW, second_say, 8, "4 file-header bytes 56\n"),
         (CHECK, first_say, 8, ""),
@@ -248,6 +334,7 @@ fn each_fault_of_a_repair_leaves_whole_chunks(rt: HostRuntime) -> Result<(), Fai
     // No output is created for what is no such file.
     let other = b"XDF".as_slice();
     assert!(rt; reports(rt.alloc(), REPAIR, other, NONE, 3, &["fault 3\n"])?);
+    assert!(rt; reports(rt.alloc(), SEARCH, other, NONE, 3, &["fault 3\n"])?);
     Ok(())
 }
 

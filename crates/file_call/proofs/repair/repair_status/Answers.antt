@@ -1,6 +1,5 @@
 use Rattle.std.proofs.Common.{rules, ap, Err, inl, ◌∙◌}
 use Rattle.file_call.proofs.Files.{told_other}
-use Rattle.file_call.proofs.Repairs.{long_still}
 use Rattle.file_call.proofs.repair.repair_status.Goals as goal
 
 pub returns-in-Err-NotXdf-clause-not_xdf : goal.returns-in-Err-NotXdf-clause-not_xdf
@@ -14,8 +13,3 @@ returns-in-Err-NotXdf-clause-not_xdf g c = λ _.
       c.say_fault.ensures.held ∙ still.1,
       search rules,
     )
-
-pub returns-in-Err-SizeLimit-clause-size_limit : goal.returns-in-Err-SizeLimit-clause-size_limit
-returns-in-Err-SizeLimit-clause-size_limit g c = λ _.
-    let long = c.in-Err-SizeLimit.ensures.size_limit (ap Err c.in-Err-SizeLimit.field-0-is) in
-    (long_still _ _ c.say_fault-in-Err-SizeLimit.ensures.target c.say_fault-in-Err-SizeLimit.ensures.held long, search rules)
