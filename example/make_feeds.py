@@ -1,5 +1,5 @@
 #!/usr/bin/env python3
-"""Makes the header documents and the feeds of this folder: four seconds of a session.
+"""Makes the header documents and the feeds of this folder: eight seconds of a session.
 
 Three streams, as the Lab Streaming Layer hands them out: brain waves, markers and a belt's
 breath. What this script writes is what lies beside it, byte for byte, on every machine.
@@ -81,9 +81,9 @@ def breath(seconds):
 
 
 def eeg_feed(uid):
-    """Each of the 1000 samples has its stamp."""
+    """Each of the 2000 samples has its stamp."""
     feed = reply(uid, "1234") + test_samples("<", 8, "f", 0)
-    for k in range(1000):
+    for k in range(2000):
         feed += sample("<", START + k / 250, [wave(k / 250, c) for c in range(8)], "f")
     return feed
 
@@ -91,14 +91,14 @@ def eeg_feed(uid):
 def marker_feed(uid):
     feed = reply(uid, "1234") + test_samples("<", 1, "s", 0)
     for k, text in enumerate(MARKERS):
-        feed += sample("<", START + k / 3, [text], "s")
+        feed += sample("<", START + 2 * k / 3, [text], "s")
     return feed
 
 
 def breath_feed(uid):
-    """The belt sends its 400 samples by tens, and stamps the first of each ten. Its highest byte comes first."""
+    """The belt sends its 800 samples by tens, and stamps the first of each ten. Its highest byte comes first."""
     feed = reply(uid, "4321") + test_samples(">", 1, "h", 257)
-    for k in range(400):
+    for k in range(800):
         stamp = START + k / 100 if k % 10 == 0 else None
         feed += sample(">", stamp, [breath(k / 100)], "h")
     return feed
