@@ -195,7 +195,9 @@ def damage(chance, b):
         elif kind == 3:
             del b[at : at + size]
         elif kind == 4:
-            b[at:at] = some_bytes(chance, size)
+            # (now and then so many that the search takes several pieces, with a boundary near the end of one)
+            many = chance.randbytes(max(0, 65_536 * chance.randrange(1, 3) - at + chance.randrange(-40, 40)))
+            b[at:at] = some_bytes(chance, size) if chance.random() < 0.8 else many + some_bytes(chance, size)
         else:
             del b[at:]
     return bytes(b)
