@@ -101,6 +101,7 @@ impl<S: Source> Salvager<S> {
         ensures cause { self.old.end ≡ None → result ≡ SalvageStep.ReadFault → Rose (S.faults self.old.source) (S.faults self.new.source) }
         ensures later { S.faults self.old.source ≤ S.faults self.new.source }
         ensures marked { S.mark self.new.source ≡ S.mark self.old.source }
+        ensures low { self.old.end ≡ None → self.old.file.place ≤ self.old.file.byte_limit }
         ensures high { self.new.file.byte_limit ≤ 2 ^ 40 }
     {
         if let Some(end) = self.end {
@@ -121,6 +122,7 @@ impl<S: Source> Salvager<S> {
         ensures cause { self.old.end ≡ None → result ≡ Salvaged.ReadFault → Rose (S.faults self.old.source) (S.faults self.new.source) }
         ensures later { S.faults self.old.source ≤ S.faults self.new.source }
         ensures marked { S.mark self.new.source ≡ S.mark self.old.source }
+        ensures low { self.old.end ≡ None → self.old.file.place ≤ self.old.file.byte_limit }
         ensures high { self.new.file.byte_limit ≤ 2 ^ 40 }
     {
         if let Some(end) = self.end {

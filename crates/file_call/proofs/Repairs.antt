@@ -12,7 +12,7 @@ use Rattle.rec_base.specs.Moved.{HasFailed}
 use Rattle.rec_base.specs.declared.name.Name.TheVariants.{File}
 use Rattle.rec_base.proofs.Taken.{Becomes-appends}
 use Rattle.chunk_grammar.specs.Chunk.{magic}
-use Rattle.boundary_search.specs.Parts.{kept_bytes}
+use Rattle.boundary_search.specs.Parts.{AreCountedParts, kept_bytes}
 use Rattle.xdf_repair.specs.declared.repaired.Repaired.{Repaired}
 use Rattle.xdf_repair.specs.declared.repaired.Repaired.TheVariants as answer
 use Rattle.xdf_repair.specs.Repair.{IsRepair, IsCutOff, RepairedSo}
@@ -193,13 +193,18 @@ module _ {S M : Type 0} {left_of : S → Option (List ℕ)} {faults_of : S → �
         failed = record { marked = marked ∙ entered.marked; rose = rose_later (faults_of entered.first) (faults_of source) (faults_of last) entered.later rose; taken = (cut.taken, cut.lost) };
       }
 
-  pub long_search_of : (limit : ℕ) → limit ≡ byte_limit → (r : IsSearchCut (left_of source) (left_of last) empty held') → limit < length (magic ++ r.taken)
+  pub long_search_of : (limit : ℕ) → limit ≡ byte_limit → (r : IsSearchCut (left_of source) (left_of last) empty held') → limit < length (magic ++ r.taken) → AreCountedParts (magic ++ r.taken) limit r.parts
       → IsLongSearch left_of contents from out target target' held held'
   unfolding search_cut_of
-  long_search_of limit limit_is r long =
+  long_search_of limit limit_is r long counted =
       let cut = search_cut_of r in
       let more : byte_limit < length cut.taken = subst (λ n. n < length (magic ++ r.taken)) limit_is long in
-      record { cut = cut; more = more; told = told_long contents from (left_of cut.first) (left_of cut.last) cut.taken cut.opened cut.lost more }
+      record {
+        cut = cut;
+        more = more;
+        counted = subst (λ n. AreCountedParts (magic ++ r.taken) n r.parts) limit_is counted;
+        told = told_long contents from (left_of cut.first) (left_of cut.last) cut.taken cut.opened cut.lost more;
+      }
 
   -- ---- of either form
 
@@ -223,7 +228,7 @@ module _ {S M : Type 0} {left_of : S → Option (List ℕ)} {faults_of : S → �
 
   long_by : (form : Bool) (limit : ℕ) → limit ≡ byte_limit → WroteSo form (left_of source) (left_of last) empty held' limit answer.SizeLimit → IsLong form left_of contents from out target target' held held'
   long_by false limit limit_is r = too_long_of limit limit_is r.0 r.1
-  long_by true limit limit_is r = long_search_of limit limit_is r.0 r.1
+  long_by true limit limit_is r = long_search_of limit limit_is r.0 r.1 r.2
 
   -- and where what the form is and what the answer is are known
   module _ (form form' : Bool) (form_is : form' ≡ form) (limit : ℕ) (is : Repaired) (so : WroteSo form (left_of source) (left_of last) empty held' limit is) where

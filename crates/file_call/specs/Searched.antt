@@ -8,7 +8,7 @@ use Rattle.rec_base.specs.Moved.{HasFailed}
 use Rattle.chunk_grammar.specs.declared.chunk.Chunk.{Chunk}
 use Rattle.chunk_grammar.specs.Chunk.{magic, AreChunkTexts}
 use Rattle.chunk_grammar.specs.Standing.{IsWhole, context_after_all, standing_at}
-use Rattle.boundary_search.specs.Parts.{Part, AreFirstParts, AreSalvageParts, EndsWithFirst, kept_bytes, kept_chunks, skipped_size}
+use Rattle.boundary_search.specs.Parts.{Part, AreCountedParts, AreFirstParts, AreSalvageParts, EndsWithFirst, kept_bytes, kept_chunks, skipped_size}
 use Rattle.xdf_repair.specs.declared.repaired.Repaired.{Repaired}
 use Rattle.xdf_repair.specs.Repair.{RepairedSo}
 use Rattle.xdf_repair.specs.Search.{SearchedSo}
@@ -56,10 +56,11 @@ pub record IsFailedSearch {S M : Type 0} (left_of : S → Option (List ℕ)) (fa
   pub cut : IsCutSearch left_of contents from out target target' held held'
   pub failed : HasFailed left_of faults_of mark_of cut.first cut.last
 
--- more bytes than count were taken
+-- more bytes than count were taken, and the parts are all that are told of those that count
 pub record IsLongSearch {S : Type 0} (left_of : S → Option (List ℕ)) (contents : Option Contents) (from out : List ℕ) (target target' held held' : Option (List ℕ)) : Type 0 where
   pub cut : IsCutSearch left_of contents from out target target' held held'
   pub more : byte_limit < length cut.taken
+  pub counted : AreCountedParts cut.taken byte_limit cut.parts
   pub told : IsToldLong contents from
 
 -- where contents are told, and the first text at the name is whole chunks, a damaged part at whose place no whole chunk stands and which ends

@@ -1,10 +1,11 @@
 -- The parts of a damaged file, one more at a time.
-use Rattle.std.proofs.Common.{◌≡◌, ℕ, ◌+◌, ◌<◌, Bool, false, true, IsTrue, List, [], ◌∷◌, ◌++◌, length, take, drop, inl, refl, sym, ap, ◌∙◌, subst, append_assoc, arith}
+use Rattle.std.proofs.Common.{◌≡◌, ℕ, ◌+◌, ◌-◌, ◌<◌, Bool, false, true, IsTrue, List, [], ◌∷◌, ◌++◌, length, take, drop, inl, refl, sym, ap, ◌∙◌, subst, append_assoc, arith}
 use Rattle.std.proofs.lemmas.List.{append-nil, length-append, take-append-drop}
 use Rattle.chunk_grammar.specs.declared.chunk.Chunk.{Chunk}
 use Rattle.chunk_grammar.specs.Chunk.{Context, boundary_bytes}
 use Rattle.chunk_grammar.specs.Standing.{Standing, whole, torn, bad, standing_at, IsWhole}
 use Rattle.chunk_laws.proofs.MoreBytes.{at_more}
+use Rattle.boundary_search.proofs.Searching.{take_split}
 use Rattle.boundary_search.specs.Parts.{Part, kept, skipped, part_bytes, context_behind, context_behind_all, EndsWithFirst, IsBad, IsPart, AreFirstParts, kept_bytes, kept_chunks, skipped_size}
 
 -- ---- what is bad
@@ -76,6 +77,15 @@ first_grow true true ctx ps b rest more still none h =
     let P : List ℕ → List ℕ → Type 0 = λ x y. AreFirstParts true ctx ps x y in
     let same : (l : List ℕ) → l ≡ l ++ more = λ l. sym (ap (λ (m : List ℕ). l ++ m) (none refl) ∙ append-nil l) in
     subst (λ (y : List ℕ). P (b ++ more) y) (same rest) (subst (λ (x : List ℕ). P x rest) (same b) h)
+
+-- of the bytes that count, as many more were taken as count
+pub first_counted : (ctx : Context) (ps : List Part) (n m : ℕ) (b rest more : List ℕ) → n - length b ≡ m - length rest → AreFirstParts false ctx ps (take n b) (take m rest) → AreFirstParts false ctx ps (take n (b ++ more)) (take m (rest ++ more))
+first_counted ctx ps n m b rest more same h =
+    let P : List ℕ → List ℕ → Type 0 = λ x y. AreFirstParts false ctx ps x y in
+    let further : List ℕ = take (n - length b) more in
+    let left : take n b ++ further ≡ take n (b ++ more) = sym (take_split n b more) in
+    let right : take m rest ++ further ≡ take m (rest ++ more) = ap (λ (k : ℕ). take m rest ++ take k more) same ∙ sym (take_split m rest more) in
+    subst (λ (y : List ℕ). P (take n (b ++ more)) y) right (subst (λ (x : List ℕ). P x (take m rest ++ further)) left (first_more ctx ps (take n b) (take m rest) further h))
 
 -- ---- one part more
 

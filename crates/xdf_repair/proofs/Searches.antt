@@ -1,6 +1,7 @@
 -- A repair that searches behind damage, part by part.
-use Rattle.std.proofs.Common.{◌≡◌, ℕ, ◌+◌, ◌-◌, Bool, false, true, IsTrue, List, [], ◌∷◌, ◌++◌, length, Option, refl, sym, ap, ◌∙◌, subst, append_assoc, arith}
-use Rattle.std.proofs.lemmas.List.{length-append}
+use Rattle.std.proofs.Common.{◌≡◌, ℕ, zero, suc, ◌+◌, ◌-◌, ◌≤◌, take, inl, inr, Bool, false, true, IsTrue, List, [], ◌∷◌, ◌++◌, length, Option, refl, sym, ap, ◌∙◌, subst, append_assoc, arith}
+use Rattle.std.proofs.lemmas.Bool.{cases_Bool}
+use Rattle.std.proofs.lemmas.List.{length-append, take_all}
 use Rattle.std.specs.Io.KnownBytes.{Appends, Consumes, IsAtEnd}
 use Rattle.std.proofs.KnownBytes.{Appends-nil, Appends-trans, Consumes-nil, Consumes-trans}
 use Rattle.rec_base.specs.Known.{AppendsFront, Loses}
@@ -10,21 +11,28 @@ use Rattle.file_reader.specs.AsNext.{chunk_of}
 use Rattle.file_reader.specs.FileInlet.{FileInlet}
 use Rattle.boundary_search.specs.declared.step.Salvaged.{Salvaged}
 use Rattle.boundary_search.specs.declared.step.Salvaged.TheVariants.{Chunk, Skipped, End, ReadFault, SizeLimit, Memory}
-use Rattle.boundary_search.specs.Parts.{kept, skipped, AreFirstParts, IsPart, context_behind_all, kept_bytes}
-use Rattle.boundary_search.specs.Salvage.{Salvage, Goes, IsChunkFound, IsEndFound, IsBroken, IsFound, IsFresh, IsPastLimit, IsRangeSkipped}
+use Rattle.boundary_search.specs.Parts.{Part, kept, skipped, part_bytes, AreCountedParts, AreFirstParts, IsPart, IsStuck, context_behind_all, kept_bytes}
+use Rattle.boundary_search.proofs.Searching.{take_split}
+use Rattle.boundary_search.specs.Salvage.{Salvage, Goes, counted, IsChunkFound, IsEndFound, IsBroken, IsFound, IsFresh, IsPastLimit, IsRangeSkipped}
 use Rattle.xdf_repair.specs.declared.repaired.Repaired.{Repaired}
 use Rattle.xdf_repair.specs.declared.repaired.Repaired.TheVariants as repaired
 use Rattle.xdf_repair.specs.Copying.{Gathers}
 use Rattle.xdf_repair.specs.Search.{IsSearch, IsSearchCut, SearchedSo}
 use Rattle.xdf_repair.specs.Searching.{ArePassed, AreGathered}
 use Rattle.xdf_repair.proofs.Copies.{front_all, front_behind, long_text}
-use Rattle.xdf_repair.proofs.Parts.{context_and_one, count_and_chunk, count_and_range, first_and_one, first_grow, kept_and_chunk, kept_and_range, part_by, part_of_first, skipped_and_chunk, skipped_and_range}
+use Rattle.xdf_repair.proofs.Parts.{context_and_one, count_and_chunk, count_and_range, first_and_one, first_counted, first_grow, kept_and_chunk, kept_and_range, part_by, part_of_first, skipped_and_chunk, skipped_and_range}
 
 -- ---- the magic
+
+take_none : (n : ℕ) → take {A = ℕ} n [] ≡ []
+take_none zero = refl
+take_none (suc n) = refl
 
 pub gathered_magic : {S : Type 0} (a held : Option (List ℕ)) (now : Salvage S) (waiting : List ℕ) → IsFresh now → waiting ≡ magic → AreGathered a a held held now.ended now.file 0 4 0 waiting
 gathered_magic a held now waiting f is = record {
   passed = record {
+    first_counted = λ e. take_none (now.file.byte_limit - 4) ∙ sym (ap (take (now.file.byte_limit - now.file.place)) f.3 ∙ take_none (now.file.byte_limit - now.file.place));
+    within = λ e. let wrong : false ≡ true = sym f.4 ∙ e in absurd cc;
     taken = [];
     lost = Consumes-nil a;
     all = λ e. let wrong : false ≡ true = sym f.4 ∙ e in absurd cc;
@@ -68,6 +76,32 @@ module _ {S : Type 0} (left : S → Option (List ℕ)) (a : Option (List ℕ)) (
     size_more =
         omega (arith, k.size, goes.place, ap length goes.all, length-append old.file.ahead goes.taken, length-append gone new.file.ahead, length-append k.taken goes.taken)
 
+    within_still : IsTrue old.ended → new.file.place + length new.file.ahead ≤ new.file.byte_limit
+    within_still e = omega (arith, k.within e, ap length (goes.none e), ap length goes.all, goes.place, goes.limit, length-append old.file.ahead goes.taken, length-append gone new.file.ahead)
+
+    -- of all bytes that count, those that were gone past and those behind them
+    counted_goes : new.file.place ≤ new.file.byte_limit → take (old.file.byte_limit - old.file.place) (old.file.ahead ++ goes.taken) ≡ gone ++ counted new.file
+    counted_goes low =
+        let room = old.file.byte_limit - old.file.place in
+        let left : room - length gone ≡ new.file.byte_limit - new.file.place = omega (arith, goes.place, goes.limit) in
+        ap (take room) goes.all ∙ take_split room gone new.file.ahead
+        ∙ ap (λ (l : List ℕ). l ++ take (room - length gone) new.file.ahead) (take_all room gone (omega (arith, low, goes.place, goes.limit)))
+        ∙ ap (λ (n : ℕ). gone ++ take n new.file.ahead) left
+
+    counted_more : old.ended ≡ false → AreFirstParts false [] k.parts (take (old.file.byte_limit - 4) (k.taken ++ goes.taken)) (take (old.file.byte_limit - old.file.place) (old.file.ahead ++ goes.taken))
+    counted_more e =
+        first_counted [] k.parts (old.file.byte_limit - 4) (old.file.byte_limit - old.file.place) k.taken old.file.ahead goes.taken (omega (arith, k.size)) (k.first_counted e)
+
+    -- and one part more
+    counted_and_one : (p : Part) → part_bytes p ≡ gone → new.file.place ≤ new.file.byte_limit → old.ended ≡ false → IsPart false (context_behind_all [] k.parts) p (counted new.file)
+        → AreFirstParts false [] (k.parts ++ p ∷ []) (take (new.file.byte_limit - 4) (k.taken ++ goes.taken)) (counted new.file)
+    counted_and_one p is low e part =
+        let b = k.taken ++ goes.taken in
+        let behind : take (old.file.byte_limit - old.file.place) (old.file.ahead ++ goes.taken) ≡ part_bytes p ++ counted new.file = counted_goes low ∙ ap (λ (l : List ℕ). l ++ counted new.file) (sym is) in
+        let first = subst (λ (l : List ℕ). AreFirstParts false [] k.parts (take (old.file.byte_limit - 4) b) l) behind (counted_more e) in
+        subst (λ (n : ℕ). AreFirstParts false [] (k.parts ++ p ∷ []) (take (n - 4) b) (counted new.file)) (sym goes.limit)
+        (first_and_one false [] k.parts p (take (old.file.byte_limit - 4) b) (counted new.file) first part)
+
     pub cut_behind : (IsTrue old.ended → (new.source ≡ old.source) × IsTrue new.ended) → (held held' : Option (List ℕ)) → AppendsFront held held' (magic ++ kept_bytes k.parts) → IsSearchCut a (left new.source) held held'
     cut_behind still held held' some = record {
       taken = k.taken ++ goes.taken;
@@ -85,6 +119,9 @@ module _ {S : Type 0} (left : S → Option (List ℕ)) (a : Option (List ℕ)) (
     end_by false is e = closed is e
     end_by true is e = subst (λ (s : S). IsAtEnd (left s)) (sym (still is).0) (k.all is)
 
+    not_ended : new.ended ≡ false → old.ended ≡ false
+    not_ended e = elim (cases_Bool old.ended) [ inl t ↦ let wrong : true ≡ false = sym (still t).1 ∙ e in absurd cc | inr f ↦ f ]
+
     all_more : IsTrue new.ended → IsAtEnd (left new.source)
     all_more = end_by old.ended refl
 
@@ -101,6 +138,8 @@ module _ {S : Type 0} (left : S → Option (List ℕ)) (a : Option (List ℕ)) (
             all = all_more;
             parts = k.parts ++ kept c text ∷ [];
             first = first_and_one new.ended [] k.parts (kept c text) (k.taken ++ h.goes.taken) new.file.ahead (first_more text h.goes new.ended (λ e. (still e).1)) here;
+            first_counted = λ e. counted_and_one text h.goes (kept c text) refl h.within (sym h.ended ∙ e) here;
+            within = λ e. within_still text h.goes (sym h.ended ∙ e);
             context = h.context ∙ ap (λ (x : Context). context_after x c) k.context ∙ sym (context_and_one [] k.parts (kept c text));
             size = size_more text h.goes;
             chunk_count = omega (arith, k.chunk_count, count_and_chunk k.parts c text);
@@ -129,6 +168,10 @@ module _ {S : Type 0} (left : S → Option (List ℕ)) (a : Option (List ℕ)) (
             all = all_more;
             parts = k.parts ++ p ∷ [];
             first = first_and_one new.ended [] k.parts p (k.taken ++ h.past.goes.taken) new.file.ahead (first_more h.past.range h.past.goes new.ended (λ e. (still e).1)) (range_here from to h);
+            first_counted = λ e.
+                counted_and_one h.past.range h.past.goes p refl h.past.within (not_ended e)
+                (subst (λ (x : Context). IsPart false x p (counted new.file)) k.context (h.past.sure e));
+            within = h.past.counts;
             context = h.past.context ∙ k.context ∙ sym (context_and_one [] k.parts p);
             size = size_more h.past.range h.past.goes;
             chunk_count = k.chunk_count ∙ ap length (sym (count_and_range k.parts h.past.range));
@@ -170,12 +213,26 @@ module _ {S : Type 0} (left : S → Option (List ℕ)) (a : Option (List ℕ)) (
     omega (arith, size_more h.gone h.goes, length-append magic (k.taken ++ h.goes.taken), h.within, h.goes.limit, same),
   )
 
-  pub limit_so : (IsTrue old.ended → (new.source ≡ old.source) × IsTrue new.ended) → (held held' : Option (List ℕ)) (limit : ℕ) → old.file.byte_limit ≡ limit → IsPastLimit (left old.source) (left new.source) old.ended old.file new.file → Appends held held' (magic ++ kept_bytes k.parts) → SearchedSo a (left new.source) held held' limit repaired.SizeLimit
+  pub limit_so : (IsTrue old.ended → (new.source ≡ old.source) × IsTrue new.ended) → (held held' : Option (List ℕ)) (limit : ℕ) → old.file.byte_limit ≡ limit → old.file.place ≤ old.file.byte_limit → IsPastLimit (left old.source) (left new.source) old.ended old.file new.file
+      → Appends held held' (magic ++ kept_bytes k.parts) → SearchedSo a (left new.source) held held' limit repaired.SizeLimit
   unfolding cut_behind
-  limit_so still held held' limit same h all = (
-    cut_behind h.gone h.goes still held held' (front_all held held' (magic ++ kept_bytes k.parts) all),
-    omega (arith, size_more h.gone h.goes, length-append magic (k.taken ++ h.goes.taken), h.more, h.goes.limit, same),
-  )
+  limit_so still held held' limit same low h all =
+      let taken = k.taken ++ h.goes.taken in
+      let going : old.ended ≡ false = elim (cases_Bool old.ended) [ inl t ↦ absurd (omega (arith, within_still h.gone h.goes t, h.more)) | inr f ↦ f ] in
+      let four : 4 ≤ old.file.byte_limit = omega (arith, low, k.both, k.byte_count) in
+      let begins : take old.file.byte_limit (magic ++ taken) ≡ magic ++ take (old.file.byte_limit - 4) taken =
+      take_split old.file.byte_limit magic taken ∙ ap (λ (l : List ℕ). l ++ take (old.file.byte_limit - length magic) taken) (take_all old.file.byte_limit magic (omega (arith, four))) in
+      let counts : AreCountedParts (magic ++ taken) old.file.byte_limit k.parts = record {
+        rest = take (old.file.byte_limit - 4) taken;
+        left = take (old.file.byte_limit - old.file.place) (h.gone ++ new.file.ahead);
+        begins = begins;
+        first = subst (λ (l : List ℕ). AreFirstParts false [] k.parts (take (old.file.byte_limit - 4) taken) (take (old.file.byte_limit - old.file.place) l)) h.goes.all (counted_more h.gone h.goes going);
+        stuck = subst (λ (x : Context). IsStuck x (take (old.file.byte_limit - old.file.place) (h.gone ++ new.file.ahead))) k.context h.stuck;
+      } in (
+        cut_behind h.gone h.goes still held held' (front_all held held' (magic ++ kept_bytes k.parts) all),
+        omega (arith, size_more h.gone h.goes, length-append magic taken, h.more, h.goes.limit, same),
+        subst (λ (n : ℕ). AreCountedParts (magic ++ taken) n k.parts) same counts,
+      )
 
 -- ---- the same with what waits
 

@@ -3,7 +3,7 @@ use Rattle.std.specs.Prelude.{◌≡◌, ℕ, ◌<◌, ◌≤◌, Bool, List, []
 use Rattle.std.specs.Io.KnownBytes.{Appends, Consumes, IsAtEnd}
 use Rattle.rec_base.specs.Known.{AppendsFront}
 use Rattle.chunk_grammar.specs.Chunk.{magic}
-use Rattle.boundary_search.specs.Parts.{Part, AreFirstParts, AreSalvageParts, kept_bytes, kept_chunks, skipped_size}
+use Rattle.boundary_search.specs.Parts.{Part, AreCountedParts, AreFirstParts, AreSalvageParts, kept_bytes, kept_chunks, skipped_size}
 use Rattle.xdf_repair.specs.declared.repaired.Repaired.{Repaired}
 use Rattle.xdf_repair.specs.declared.repaired.Repaired.TheVariants.{Done, ReadFault, WriteFault, SizeLimit, Memory}
 
@@ -33,10 +33,11 @@ pub record IsSearchCut (before left held held' : Option (List ℕ)) : Type 0 whe
   pub first : AreFirstParts ended [] parts taken rest
   pub written : AppendsFront held held' (magic ++ kept_bytes parts)
 
--- what each answer says of the bytes that were taken and written, where so many bytes count
+-- what each answer says of the bytes that were taken and written, where so many bytes count; at the limit the parts are all that are told of
+-- the bytes that count
 abbrev pub SearchedSo : Option (List ℕ) → Option (List ℕ) → Option (List ℕ) → Option (List ℕ) → ℕ → Repaired → Type 0
 SearchedSo before left held held' limit (Done chunks bytes skipped) = IsSearch before left held held' limit chunks bytes skipped
 SearchedSo before left held held' limit ReadFault = (cut : IsSearchCut before left held held') × (length (magic ++ cut.taken) ≤ limit)
-SearchedSo before left held held' limit SizeLimit = (cut : IsSearchCut before left held held') × (limit < length (magic ++ cut.taken))
+SearchedSo before left held held' limit SizeLimit = (cut : IsSearchCut before left held held') × (limit < length (magic ++ cut.taken)) × AreCountedParts (magic ++ cut.taken) limit cut.parts
 SearchedSo before left held held' limit WriteFault = IsSearchCut before left held held'
 SearchedSo before left held held' limit Memory = IsSearchCut before left held held'

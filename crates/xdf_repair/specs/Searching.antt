@@ -1,17 +1,21 @@
 -- What a repair that searches behind damage has written so far.
-use Rattle.std.specs.Prelude.{◌≡◌, ℕ, ◌+◌, ◌≤◌, Bool, List, [], ◌++◌, length, Option, IsTrue}
+use Rattle.std.specs.Prelude.{◌≡◌, ℕ, ◌+◌, ◌-◌, ◌≤◌, Bool, false, List, [], ◌++◌, length, take, Option, IsTrue}
 use Rattle.std.specs.Io.KnownBytes.{Appends, Consumes, IsAtEnd}
 use Rattle.chunk_grammar.specs.Chunk.{magic}
 use Rattle.file_reader.specs.FileInlet.{FileInlet}
 use Rattle.boundary_search.specs.Parts.{Part, AreFirstParts, context_behind_all, kept_bytes, kept_chunks, skipped_size}
+use Rattle.boundary_search.specs.Salvage.{counted}
 
--- these bytes were taken: those of the first parts, and what is held behind them
+-- these bytes were taken: those of the first parts, and what is held behind them; where the input has not ended, the parts are those of the bytes
+-- that count
 pub record ArePassed (before left : Option (List ℕ)) (ended : Bool) (now : FileInlet) (chunks bytes skipped : ℕ) : Type 0 where
   pub taken : List ℕ
   pub lost : Consumes before left taken
   pub all : IsTrue ended → IsAtEnd left
   pub parts : List Part
   pub first : AreFirstParts ended [] parts taken now.ahead
+  pub first_counted : ended ≡ false → AreFirstParts false [] parts (take (now.byte_limit - 4) taken) (counted now)
+  pub within : IsTrue ended → now.place + length now.ahead ≤ now.byte_limit
   pub context : now.context ≡ context_behind_all [] parts
   pub size : now.place + length now.ahead ≡ 4 + length taken
   pub chunk_count : chunks ≡ length (kept_chunks parts)

@@ -85,7 +85,7 @@ returns-clause-repaired g c =
       | in-ReadFault w ↦
           subst P (sym w.repaired-is) (fault_so g.S.Source.left _ c.parts.salvager c.pass.new.self _ _ _ k c.pass.ensures.still _ _ _ i.limit (w.in-ReadFault.ensures.found i.goes).0 all)
       | in-SizeLimit w ↦
-          subst P (sym w.repaired-is) (limit_so g.S.Source.left _ c.parts.salvager c.pass.new.self _ _ _ k c.pass.ensures.still _ _ _ i.limit (w.in-SizeLimit.ensures.found i.goes).0 all)
+          subst P (sym w.repaired-is) (limit_so g.S.Source.left _ c.parts.salvager c.pass.new.self _ _ _ k c.pass.ensures.still _ _ _ i.limit (c.pass.ensures.low i.goes) (w.in-SizeLimit.ensures.found i.goes).0 all)
       | in-Memory w ↦
           subst P (sym w.repaired-is)
           (cut_behind g.S.Source.left _ c.parts.salvager c.pass.new.self _ _ _ k _ (w.in-Memory.ensures.found i.goes).goes c.pass.ensures.still _ _ (front_all _ _ _ all))
