@@ -1,7 +1,8 @@
 //! The file that is written. It is never emptied, and no byte of it is written over.
 
-ghost use Rattle.std.specs.Prelude.{◌≡◌, ◌≤◌, ◌<◌, ◌<ℤ◌, pos, length, true, false, IfSome, IsTrue};
+ghost use Rattle.std.specs.Prelude.{◌≡◌, ◌≤◌, ◌<◌, ◌<ℤ◌, pos, length, take, true, false, None, IfSome, IsTrue};
 ghost use Rattle.std.specs.Fd.{file_raw_fd};
+ghost use Rattle.std.specs.Io.KnownBytes.{Appends, Keeps};
 ghost use Rattle.std.specs.Fs.{asks_append, asks_create, asks_create_new, asks_truncate};
 ghost use Rattle.record_cli.specs.Outputs.{IsForced};
 
@@ -9,6 +10,7 @@ use crate::identity::{Identity, identity_of, is_free};
 use crate::retry::write_again;
 use crate::streams::file_beside_streams;
 use std::fs::{self, File, OpenOptions};
+use std::io::Write;
 use std::rt::Files;
 
 /// A file that is written.
@@ -113,7 +115,18 @@ fn write_into(output: &mut Output, bytes: &[u8]) -> Option<usize>
     ensures unforced { output.new.is_forced ≡ false }
 {
     output.is_forced = false;
-    match write_again(&mut output.file, bytes) {
+    write_counted(&mut output.file, bytes)
+}
+
+// One write that no signal interrupted, and how many bytes were taken: at least one of some. `None`
+// where none was.
+fn write_counted<F: Write>(file: &mut F, bytes: &[u8]) -> Option<usize>
+    ensures within { IfSome result (λ n. n ≤ length bytes.now) }
+    ensures some { 0 < length bytes.now → IfSome result (λ n. 0 < n) }
+    ensures taken { IfSome result (λ n. Appends (F.contents file.old) (F.contents file.new) (take n bytes.now)) }
+    ensures none { result ≡ None → Keeps (F.contents file.old) (F.contents file.new) }
+{
+    match write_again(file, bytes) {
         Ok(0) if !bytes.is_empty() => None,
         Ok(n) => Some(n),
         Err(_) => None,

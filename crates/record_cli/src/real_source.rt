@@ -1,14 +1,13 @@
 //! A file that is read, or a peer.
 
-ghost use Rattle.std.specs.Prelude.{◌≢◌, IfErr};
 ghost use Rattle.std.specs.Io.{ReadsAtMost};
-ghost use Rattle.std.specs.IoError.{error_kind};
-ghost use Rattle.std.specs.declared.io.ErrorKind.TheVariants.{Interrupted};
+ghost use Rattle.std.specs.Io.KnownBytes.{ReadConsumes};
+ghost use Rattle.rec_base.specs.Causes.{HasCause};
 
 use crate::retry::read_again;
 use rec_base::{Failed, Source};
 use std::fs::File;
-use std::io;
+use std::io::Read;
 use std::net::TcpStream;
 
 // What the bytes come from.
@@ -44,14 +43,19 @@ impl RealSource {
     }
 }
 
-// One read that no signal interrupted. A peer gives what has arrived, and is waited for where nothing has.
-fn read_from(origin: &mut Origin, buf: &mut [u8]) -> io::Result<usize>
+// One read that no signal interrupted; one that failed is counted. A peer gives what has arrived, and is
+// waited for where nothing has.
+fn read_counted<F: Read>(from: &mut F, faults: &mut u64, buf: &mut [u8]) -> Result<usize, Failed>
     ensures bound { ReadsAtMost result buf.new }
-    ensures again { IfErr result (λ fault. error_kind fault ≢ Interrupted) }
+    ensures bytes { ReadConsumes (F.remaining from.old) (F.remaining from.new) result buf.new }
+    ensures cause { HasCause faults.old faults.new result }
 {
-    match origin {
-        Origin::File(file) => read_again(file, buf),
-        Origin::Peer(peer) => read_again(peer, buf),
+    match read_again(from, buf) {
+        Ok(n) => Ok(n),
+        Err(_) => {
+            *faults = faults.saturating_add(1);
+            Err(Failed)
+        }
     }
 }
 
@@ -67,12 +71,9 @@ impl Source for RealSource {
     /// Answers `Failed` where the system refuses the read, or the peer broke the connection. A read that
     /// a signal interrupts is tried again.
     fn read(&mut self, buf: &mut [u8]) -> Result<usize, Failed> {
-        match read_from(&mut self.origin, buf) {
-            Ok(n) => Ok(n),
-            Err(_) => {
-                self.faults = self.faults.saturating_add(1);
-                Err(Failed)
-            }
+        match &mut self.origin {
+            Origin::File(file) => read_counted(file, &mut self.faults, buf),
+            Origin::Peer(peer) => read_counted(peer, &mut self.faults, buf),
         }
     }
 }
