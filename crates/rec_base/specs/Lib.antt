@@ -1,3 +1,4 @@
+pub mod Asked
 pub mod Buffer
 pub mod Calls
 pub mod Causes

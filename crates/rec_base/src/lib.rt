@@ -7,6 +7,8 @@
 //! and `MemSink` fails for want of memory alone. `read_document` reads a bounded input to its end.
 #![tactic(auto)]
 
+mod ask_log;
+mod asked;
 mod blob;
 mod buffer;
 mod calls;
@@ -30,6 +32,7 @@ mod take_first;
 mod tests;
 mod word;
 
+pub use asked::Asked;
 pub use blob::Blob;
 pub use count_lines::CountLines;
 pub use dock::Dock;

@@ -190,6 +190,10 @@ fn listed_calls_fail(rt: HostRuntime) -> Result<(), Fail> {
     for (call, well) in calls {
         assert_eq!(rt; went_well(alloc, &mut dock, call)?, well);
     }
+    let asked = dock.asked().unwrap_or(&[]);
+    assert_eq!(rt; asked.len(), 4);
+    assert!(rt; matches!(&asked[0], Asked::Opening(Name::File(path)) if path.text() == "a"));
+    assert!(rt; matches!(&asked[1], Asked::Creation(path) if path.text() == "out"));
     assert_eq!(rt; dock.target(), b"out".as_slice());
     assert_eq!(rt; dock.held(), b"abef".as_slice());
     assert_eq!(rt; dock.printed(), b"kept\n".as_slice());
