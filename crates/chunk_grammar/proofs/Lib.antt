@@ -1,3 +1,4 @@
+pub mod Contexts
 pub mod LeastChunks
 pub mod Spelled
 pub mod Room

@@ -1,5 +1,5 @@
 -- Chunks and files of chunks (XDF, "Chunk layout"); the context and the limit are this project's own.
-use Rattle.std.specs.Prelude.{◌≡◌, ℕ, ◌+◌, ◌<◌, ◌≤◌, ◌^◌, ◌==◌, ◌||◌, Bool, List, [], ◌∷◌, ◌++◌, length, Option, Some, None, Result, Ok, Err, if◌then◌else◌, IsTrue, nat_lt, codes}
+use Rattle.std.specs.Prelude.{◌≡◌, ⊤, ℕ, ◌+◌, ◌<◌, ◌≤◌, ◌^◌, ◌==◌, ◌||◌, Bool, List, [], ◌∷◌, ◌++◌, length, Option, Some, None, Result, Ok, Err, if◌then◌else◌, IsTrue, nat_lt, codes}
 use Rattle.std.specs.List.{flat_map}
 use Rattle.byteorder.specs.Endian.{little_bytes}
 use Rattle.xdf_model.specs.declared.types.Shape.{Shape}
@@ -18,6 +18,11 @@ Context = List (ℕ × Shape)
 abbrev pub shape_of : Context → ℕ → Option Shape
 shape_of [] id = None
 shape_of (s ∷ more) id = if s.0 == id then Some s.1 else shape_of more id
+
+-- no two streams have one id
+abbrev pub HasDistinctIds : Context → Type 0
+HasDistinctIds [] = ⊤
+HasDistinctIds (s ∷ more) = (shape_of more s.0 ≡ None) × HasDistinctIds more
 
 abbrev pub with_shape : Context → ℕ → Result Shape NoShape → Context
 with_shape ctx id (Ok shape) = ctx ++ (id, shape) ∷ []

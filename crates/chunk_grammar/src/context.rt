@@ -34,10 +34,13 @@ pub struct Context {
 impl Model for Context {
     ghost use Rattle.std.specs.Prelude.{List, ℕ};
     ghost use Rattle.xdf_model.specs.declared.types.Shape.{Shape};
+    ghost use Rattle.chunk_grammar.specs.Chunk.{HasDistinctIds};
 
     ghost Value = { List (ℕ × Shape) };
 
     ghost view = { λ c. c.streams.items };
+
+    ghost invariant = { λ c. HasDistinctIds c.streams.items };
 }
 
 // The shape of the first stream with this id.
@@ -76,6 +79,7 @@ impl Context {
     /// An `Err` changes nothing. `Repeated` comes exactly where the id is there, whatever the document
     /// holds; else `NoShape` exactly where [`find_shape`] finds no shape in the document; else
     /// `Memory` for want of memory alone.
+    #[tactic(auto, using(crate::proofs::Contexts::distinct_more))]
     pub fn context_add(&mut self, id: u32, doc: &[u8]) -> Result<(), CtxFault>
         ensures ok { OnOk result ((shape_of self.old id ≡ None) × (shape : Shape) × (shape_in doc.now ≡ Ok shape)
             × (self.new ≡ self.old ++ (id, shape) ∷ [])) }
