@@ -2,7 +2,7 @@
 
 ghost use Rattle.std.specs.Prelude.{◌≡◌, ◌≤◌, ◌+◌, ◌^◌, ◌⊎◌, ℕ, List, [], length, Option, None, IsTrue, false};
 ghost use Rattle.std.specs.Io.KnownBytes.{IsAtEnd};
-ghost use Rattle.rec_base.specs.Causes.{Rose};
+ghost use Rattle.rec_base.specs.Causes.{Blames, Rose};
 ghost use Rattle.file_reader.specs.AsNext.{as_next, next_in};
 ghost use Rattle.file_reader.specs.FileInlet.{FileInlet};
 ghost use Rattle.boundary_search.specs.Following.{IsReadSo};
@@ -28,8 +28,7 @@ pub(crate) fn told_end(end: SalvageEnd) -> Salvaged
 pub(crate) fn read_on<S: Source>(reader: &mut FileReader<S>, ended: bool) -> Passed
     ensures read { IsReadSo (S.left reader.old.source) (S.left reader.new.source) ended reader.old.file reader.new.file (next_in reader.old.file reader.new.file result) }
     ensures still { IsTrue ended → reader.new.source ≡ reader.old.source }
-    ensures cause { result ≡ Passed.ReadFault → Rose (S.faults reader.old.source) (S.faults reader.new.source) }
-    ensures later { S.faults reader.old.source ≤ S.faults reader.new.source }
+    ensures cause { Blames (result ≡ Passed.ReadFault) (S.faults reader.old.source) (S.faults reader.new.source) }
     ensures marked { S.mark reader.new.source ≡ S.mark reader.old.source }
     ensures high { reader.new.file.byte_limit ≤ 2 ^ 40 }
 {
@@ -45,8 +44,7 @@ pub(crate) fn read_on<S: Source>(reader: &mut FileReader<S>, ended: bool) -> Pas
 pub(crate) fn read_value<S: Source>(reader: &mut FileReader<S>, ended: bool) -> Next
     ensures read { IsReadSo (S.left reader.old.source) (S.left reader.new.source) ended reader.old.file reader.new.file result }
     ensures still { IsTrue ended → reader.new.source ≡ reader.old.source }
-    ensures cause { result ≡ Next.ReadFault → Rose (S.faults reader.old.source) (S.faults reader.new.source) }
-    ensures later { S.faults reader.old.source ≤ S.faults reader.new.source }
+    ensures cause { Blames (result ≡ Next.ReadFault) (S.faults reader.old.source) (S.faults reader.new.source) }
     ensures marked { S.mark reader.new.source ≡ S.mark reader.old.source }
     ensures high { reader.new.file.byte_limit ≤ 2 ^ 40 }
 {
@@ -74,8 +72,10 @@ pub(crate) fn follow<S: Source>(
     ensures chunk { (at : ℕ) → result ≡ Salvaged.Chunk at → (passed ≡ Passed.Chunk at) × (reader.new.file ≡ reader.old.file) }
     ensures closed { IsTrue ended.new → IsTrue ended.old ⊎ IsAtEnd (S.left reader.new.source) }
     ensures still { IsTrue ended.old → (reader.new.source ≡ reader.old.source) × IsTrue ended.new }
+    ensures fault { passed ≡ Passed.ReadFault → result ≡ Salvaged.ReadFault }
     ensures cause { result ≡ Salvaged.ReadFault → (passed ≡ Passed.ReadFault) ⊎ Rose (S.faults reader.old.source) (S.faults reader.new.source) }
     ensures later { S.faults reader.old.source ≤ S.faults reader.new.source }
+    ensures quiet { (result ≡ Salvaged.ReadFault → ⊥) → S.faults reader.new.source ≡ S.faults reader.old.source }
     ensures marked { S.mark reader.new.source ≡ S.mark reader.old.source }
     ensures limit { reader.new.file.byte_limit ≡ reader.old.file.byte_limit }
     ensures low { end.new ≡ None → reader.new.file.place ≤ reader.new.file.byte_limit }

@@ -2,7 +2,7 @@
 
 ghost use Rattle.std.specs.Prelude.{◌≡◌, ◌≤◌, ◌+◌, ◌^◌, List, length, [], None, Some, IsTrue, false, IfOk, IsErrOf};
 ghost use Rattle.std.specs.Io.KnownBytes.{Consumes, IsAtEnd};
-ghost use Rattle.rec_base.specs.Causes.{Rose};
+ghost use Rattle.rec_base.specs.Causes.{Blames};
 ghost use Rattle.rec_base.specs.Moved.{HasFailed};
 ghost use Rattle.chunk_grammar.specs.Chunk.{magic};
 ghost use Rattle.file_reader.specs.FileInlet.{IsNotXdf};
@@ -58,7 +58,7 @@ impl<S: Source + Drop> Salvager<S> {
         requires high { byte_limit ≤ 2 ^ 40 }
         ensures magic { IfOk result (λ s. Consumes (S.left source) (S.left s.source) magic) }
         ensures fresh { IfOk result (λ s. IsFresh s × (s.file.byte_limit ≡ byte_limit)) }
-        ensures source { IfOk result (λ s. (S.mark s.source ≡ S.mark source) × (S.faults source ≤ S.faults s.source)) }
+        ensures source { IfOk result (λ s. (S.mark s.source ≡ S.mark source) × (S.faults s.source ≡ S.faults source)) }
         ensures not_xdf { IsErrOf result FileFault.NotXdf → (last : S) × IsNotXdf (S.left source) (S.left last) }
         ensures read_fault { IsErrOf result FileFault.ReadFault → (last : S) × HasFailed S.left S.faults S.mark source last }
     {
@@ -98,8 +98,7 @@ impl<S: Source> Salvager<S> {
         ensures again { (end : EndValue) → self.old.end ≡ Some end → (result ≡ as_step self.old.file.context [] (told_end end)) × (self.new ≡ self.old) }
         ensures closed { self.old.ended ≡ false → IsTrue self.new.ended → IsAtEnd (S.left self.new.source) }
         ensures still { IsTrue self.old.ended → (self.new.source ≡ self.old.source) × IsTrue self.new.ended }
-        ensures cause { self.old.end ≡ None → result ≡ SalvageStep.ReadFault → Rose (S.faults self.old.source) (S.faults self.new.source) }
-        ensures later { S.faults self.old.source ≤ S.faults self.new.source }
+        ensures cause { Blames ((self.old.end ≡ None) × (result ≡ SalvageStep.ReadFault)) (S.faults self.old.source) (S.faults self.new.source) }
         ensures marked { S.mark self.new.source ≡ S.mark self.old.source }
         ensures low { self.old.end ≡ None → self.old.file.place ≤ self.old.file.byte_limit }
         ensures high { self.new.file.byte_limit ≤ 2 ^ 40 }
@@ -119,8 +118,7 @@ impl<S: Source> Salvager<S> {
         ensures again { (end : EndValue) → self.old.end ≡ Some end → (result ≡ told_end end) × (self.new ≡ self.old) }
         ensures closed { self.old.ended ≡ false → IsTrue self.new.ended → IsAtEnd (S.left self.new.source) }
         ensures still { IsTrue self.old.ended → (self.new.source ≡ self.old.source) × IsTrue self.new.ended }
-        ensures cause { self.old.end ≡ None → result ≡ Salvaged.ReadFault → Rose (S.faults self.old.source) (S.faults self.new.source) }
-        ensures later { S.faults self.old.source ≤ S.faults self.new.source }
+        ensures cause { Blames ((self.old.end ≡ None) × (result ≡ Salvaged.ReadFault)) (S.faults self.old.source) (S.faults self.new.source) }
         ensures marked { S.mark self.new.source ≡ S.mark self.old.source }
         ensures low { self.old.end ≡ None → self.old.file.place ≤ self.old.file.byte_limit }
         ensures high { self.new.file.byte_limit ≤ 2 ^ 40 }

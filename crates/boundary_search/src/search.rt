@@ -2,7 +2,7 @@
 
 ghost use Rattle.std.specs.Prelude.{◌≡◌, ◌≤◌, IsTrue, IsErrOf, ◌⊎◌};
 ghost use Rattle.std.specs.Io.KnownBytes.{IsAtEnd};
-ghost use Rattle.rec_base.specs.Causes.{Rose};
+ghost use Rattle.rec_base.specs.Causes.{Blames};
 ghost use Rattle.boundary_search.specs.Searching.{NoneStands, IsSearched};
 
 use crate::find::find_boundary;
@@ -27,8 +27,7 @@ pub(crate) fn skip_range<S: Source>(
     ensures searched { IsSearched (S.left reader.old.source) (S.left reader.new.source) ended.old ended.new reader.old.file reader.new.file result }
     ensures closed { IsTrue ended.new → IsTrue ended.old ⊎ IsAtEnd (S.left reader.new.source) }
     ensures still { IsTrue ended.old → (reader.new.source ≡ reader.old.source) × IsTrue ended.new }
-    ensures cause { IsErrOf result SalvageEnd.ReadFault → Rose (S.faults reader.old.source) (S.faults reader.new.source) }
-    ensures later { S.faults reader.old.source ≤ S.faults reader.new.source }
+    ensures cause { Blames (IsErrOf result SalvageEnd.ReadFault) (S.faults reader.old.source) (S.faults reader.new.source) }
     ensures marked { S.mark reader.new.source ≡ S.mark reader.old.source }
 {
     'pieces: loop {

@@ -3,7 +3,7 @@
 ghost use Rattle.std.specs.Prelude.{◌≡◌, ◌≤◌, ◌<◌, ◌+◌, ◌-◌, ◌*◌, ◌^◌, ℕ, List, [], length, take, Option, Some, IsTrue, false, IfOk, OnErr, IsErrOf};
 ghost use Rattle.std.specs.Option.{option_copied};
 ghost use Rattle.std.specs.Io.KnownBytes.{IsAtEnd, Keeps, Consumes};
-ghost use Rattle.rec_base.specs.Causes.{Rose};
+ghost use Rattle.rec_base.specs.Causes.{Blames};
 ghost use Rattle.reading_model.specs.Outlook.{ended, failed};
 ghost use Rattle.reading_model.specs.Reading.{going, done};
 ghost use Rattle.piece_reader.specs.Steps.{EndsAs, Wants, end_of, gained};
@@ -353,10 +353,9 @@ impl Kept {
         ensures end { IfOk result (λ n. n ≡ 0 → IsAtEnd (S.left source.new)) }
         ensures kept { OnErr result (self.new ≡ self.old) }
         ensures left { OnErr result (Keeps (S.left source.old) (S.left source.new)) }
-        ensures failed { IsErrOf result PieceFault.Failed → Rose (S.faults source.old) (S.faults source.new) }
+        ensures failed { Blames (IsErrOf result PieceFault.Failed) (S.faults source.old) (S.faults source.new) }
         ensures memory { IsErrOf result PieceFault.Memory → source.new ≡ source.old }
         ensures roomy { 1 ≤ size_of self.old.shape.format → self.old.shape.count ≤ 4096 → IsErrOf result PieceFault.Memory → ⊥ }
-        ensures later { S.faults source.old ≤ S.faults source.new }
         ensures marked { S.mark source.new ≡ S.mark source.old }
     {
         let most = self.byte_limit - self.place + 1 - self.held.bytes().len();

@@ -1,7 +1,7 @@
 //! The samples of a feed, from a source.
 
 ghost use Rattle.std.specs.Prelude.{◌≡◌, ◌≤◌, ◌+◌, ◌*◌, ◌^◌, ℕ, List, IsTrue, false, IfOk};
-ghost use Rattle.rec_base.specs.Causes.{Rose};
+ghost use Rattle.rec_base.specs.Causes.{Blames};
 ghost use Rattle.rec_base.specs.Known.{Loses};
 ghost use Rattle.reading_model.specs.Outlook.{Answered, How};
 ghost use Rattle.inlet_model.specs.Inlet.{feed_counted, feed_kind};
@@ -72,8 +72,7 @@ impl<S: Source> FeedReader<S> {
         ensures same_shape { (self.new.inlet.shape ≡ self.old.inlet.shape) × (self.new.inlet.byte_limit ≡ self.old.inlet.byte_limit) }
         ensures stays { IsTrue (outlook self.old.inlet).is_over → self.new ≡ self.old }
         ensures same_end { IsTrue (outlook self.old.inlet).is_over → IsSameEnd self.old.inlet.reading result }
-        ensures cause { (outlook self.old.inlet).is_over ≡ false → result ≡ FeedStep.End FeedEnd.ReadFault → Rose (S.faults self.old.source) (S.faults self.new.source) }
-        ensures later { S.faults self.old.source ≤ S.faults self.new.source }
+        ensures cause { Blames (((outlook self.old.inlet).is_over ≡ false) × (result ≡ FeedStep.End FeedEnd.ReadFault)) (S.faults self.old.source) (S.faults self.new.source) }
         ensures marked { S.mark self.new.source ≡ S.mark self.old.source }
         ensures left { Loses (S.left self.old.source) (S.left self.new.source) }
     {
@@ -96,8 +95,7 @@ impl<S: Source> FeedReader<S> {
         ensures same_shape { (self.new.inlet.shape ≡ self.old.inlet.shape) × (self.new.inlet.byte_limit ≡ self.old.inlet.byte_limit) }
         ensures stays { IsTrue (outlook self.old.inlet).is_over → self.new ≡ self.old }
         ensures same_end { IsTrue (outlook self.old.inlet).is_over → IsSameEnd self.old.inlet.reading (filled sample.new result) }
-        ensures cause { (outlook self.old.inlet).is_over ≡ false → result ≡ FillStep.End FeedEnd.ReadFault → Rose (S.faults self.old.source) (S.faults self.new.source) }
-        ensures later { S.faults self.old.source ≤ S.faults self.new.source }
+        ensures cause { Blames (((outlook self.old.inlet).is_over ≡ false) × (result ≡ FillStep.End FeedEnd.ReadFault)) (S.faults self.old.source) (S.faults self.new.source) }
         ensures marked { S.mark self.new.source ≡ S.mark self.old.source }
         ensures left { Loses (S.left self.old.source) (S.left self.new.source) }
     {
@@ -117,8 +115,7 @@ impl<S: Source> FeedReader<S> {
         ensures received { self.new.inlet.received ≡ received_by (filled sample.new result) self.old.inlet.received }
         ensures bounded { self.new.inlet.received ≤ self.new.inlet.byte_limit }
         ensures same_shape { (self.new.inlet.shape ≡ self.old.inlet.shape) × (self.new.inlet.byte_limit ≡ self.old.inlet.byte_limit) }
-        ensures cause { result ≡ FillStep.End FeedEnd.ReadFault → Rose (S.faults self.old.source) (S.faults self.new.source) }
-        ensures later { S.faults self.old.source ≤ S.faults self.new.source }
+        ensures cause { Blames (result ≡ FillStep.End FeedEnd.ReadFault) (S.faults self.old.source) (S.faults self.new.source) }
         ensures marked { S.mark self.new.source ≡ S.mark self.old.source }
     {
         'pieces: loop {
@@ -155,8 +152,7 @@ impl<S: Source> FeedReader<S> {
         ensures same_shape { (self.new.inlet.shape ≡ self.old.inlet.shape) × (self.new.inlet.byte_limit ≡ self.old.inlet.byte_limit) }
         ensures stays { IsTrue (outlook self.old.inlet).is_over → self.new ≡ self.old }
         ensures same_end { IsTrue (outlook self.old.inlet).is_over → EndsAgain self.old.inlet.reading result }
-        ensures cause { (outlook self.old.inlet).is_over ≡ false → result ≡ BlockStep.End FeedEnd.ReadFault → Rose (S.faults self.old.source) (S.faults self.new.source) }
-        ensures later { S.faults self.old.source ≤ S.faults self.new.source }
+        ensures cause { Blames (((outlook self.old.inlet).is_over ≡ false) × (result ≡ BlockStep.End FeedEnd.ReadFault)) (S.faults self.old.source) (S.faults self.new.source) }
         ensures marked { S.mark self.new.source ≡ S.mark self.old.source }
         ensures left { Loses (S.left self.old.source) (S.left self.new.source) }
         ensures length { block.new.length ≡ block.old.length }
@@ -180,8 +176,7 @@ impl<S: Source> FeedReader<S> {
             × FitsGiven self.old.inlet.shape step × (self.new.inlet.received ≡ received_by step self.old.inlet.received) }
         ensures bounded { self.new.inlet.received ≤ self.new.inlet.byte_limit }
         ensures same_shape { (self.new.inlet.shape ≡ self.old.inlet.shape) × (self.new.inlet.byte_limit ≡ self.old.inlet.byte_limit) }
-        ensures cause { result ≡ BlockStep.End FeedEnd.ReadFault → Rose (S.faults self.old.source) (S.faults self.new.source) }
-        ensures later { S.faults self.old.source ≤ S.faults self.new.source }
+        ensures cause { Blames (result ≡ BlockStep.End FeedEnd.ReadFault) (S.faults self.old.source) (S.faults self.new.source) }
         ensures marked { S.mark self.new.source ≡ S.mark self.old.source }
         ensures length { block.new.length ≡ block.old.length }
     {

@@ -2,7 +2,7 @@
 
 ghost use Rattle.std.specs.Prelude.{◌≡◌, ◌≤◌, ◌<◌, ◌+◌, ◌-◌, ◌^◌, ℕ, List, [], Some, length, take, IsTrue, false, IfOk, OnErr, IsErrOf};
 ghost use Rattle.std.specs.Io.KnownBytes.{IsAtEnd, Keeps, Consumes};
-ghost use Rattle.rec_base.specs.Causes.{Rose};
+ghost use Rattle.rec_base.specs.Causes.{Blames, HasCause};
 ghost use Rattle.reading_model.specs.Outlook.{ended};
 ghost use Rattle.reading_model.specs.Reading.{going, done};
 ghost use Rattle.piece_reader.specs.Held.{HeldBytes};
@@ -344,9 +344,8 @@ impl KeptFile {
         ensures end { IfOk result (λ n. n ≡ 0 → IsAtEnd (S.left source.new)) }
         ensures kept { OnErr result (self.new ≡ self.old) }
         ensures left { OnErr result (Keeps (S.left source.old) (S.left source.new)) }
-        ensures failed { IsErrOf result PieceFault.Failed → Rose (S.faults source.old) (S.faults source.new) }
+        ensures failed { Blames (IsErrOf result PieceFault.Failed) (S.faults source.old) (S.faults source.new) }
         ensures memory { IsErrOf result PieceFault.Memory → source.new ≡ source.old }
-        ensures later { S.faults source.old ≤ S.faults source.new }
         ensures marked { S.mark source.new ≡ S.mark source.old }
         ensures stands { StandsAt self.new self.new.reading }
     {
@@ -369,8 +368,7 @@ impl KeptFile {
         ensures end { IfOk result (λ n. n ≡ 0 → IsAtEnd (S.left source.new)) }
         ensures kept { OnErr result (self.new ≡ self.old) }
         ensures left { OnErr result (Keeps (S.left source.old) (S.left source.new)) }
-        ensures failed { OnErr result (Rose (S.faults source.old) (S.faults source.new)) }
-        ensures later { S.faults source.old ≤ S.faults source.new }
+        ensures failed { HasCause (S.faults source.old) (S.faults source.new) result }
         ensures marked { S.mark source.new ≡ S.mark source.old }
     {
         let held = self.held.bytes().len();

@@ -2,8 +2,8 @@
 
 ghost use Rattle.std.specs.Prelude.{◌≡◌, ◌≤◌, ◌<◌, ◌+◌, ◌-◌, ◌^◌, ℕ, List, [], ◌++◌, length, take, None, Some, IsTrue, false, IfOk, OnOk, OnErr, IsErrOf};
 ghost use Rattle.std.specs.Io.KnownBytes.{Consumes, IsAtEnd, Keeps};
-ghost use Rattle.rec_base.specs.Causes.{Rose};
-ghost use Rattle.rec_base.specs.Known.{Loses};
+ghost use Rattle.rec_base.specs.Causes.{Blames, HasCause};
+ghost use Rattle.rec_base.specs.Known.{Loses, LosesAtMost};
 ghost use Rattle.rec_base.specs.Moved.{HasFailed};
 ghost use Rattle.reading_model.specs.Outlook.{Answered, How};
 ghost use Rattle.chunk_grammar.specs.Chunk.{magic};
@@ -41,9 +41,8 @@ fn take_front<S: Source>(held: &mut Held, source: &mut S) -> Result<(), PieceFau
     ensures size { OnOk result (length held.new.bytes ≤ 4) }
     ensures places { held.old.places ≤ held.new.places }
     ensures end { OnOk result (length held.new.bytes < 4 → IsAtEnd (S.left source.new)) }
-    ensures failed { IsErrOf result PieceFault.Failed → Rose (S.faults source.old) (S.faults source.new) }
+    ensures failed { Blames (IsErrOf result PieceFault.Failed) (S.faults source.old) (S.faults source.new) }
     ensures left { Loses (S.left source.old) (S.left source.new) }
-    ensures later { S.faults source.old ≤ S.faults source.new }
     ensures marked { S.mark source.new ≡ S.mark source.old }
 {
     'pieces: loop {
@@ -72,7 +71,7 @@ impl<S: Source + Drop> FileReader<S> {
         ensures fresh { IfOk result (λ r. ((outlook r.file).is_over ≡ false) × (r.file.context ≡ []) × (r.file.place ≡ 4) × (r.file.last ≡ []) × (r.file.byte_limit ≡ byte_limit)) }
         ensures stands { IfOk result (λ r. StandsAt r.file r.file.reading) }
         ensures start { IfOk result (λ r. (r.file.ahead ≡ []) × (r.skipped ≡ None)) }
-        ensures source { IfOk result (λ r. (S.mark r.source ≡ S.mark source) × (S.faults source ≤ S.faults r.source)) }
+        ensures source { IfOk result (λ r. (S.mark r.source ≡ S.mark source) × (S.faults r.source ≡ S.faults source)) }
         ensures not_xdf { IsErrOf result FileFault.NotXdf → (last : S) × IsNotXdf (S.left source) (S.left last) }
         ensures read_fault { IsErrOf result FileFault.ReadFault → (last : S) × HasFailed S.left S.faults S.mark source last }
     {
@@ -113,8 +112,7 @@ impl<S: Source> FileReader<S> {
         ensures stands { StandsAt self.new.file self.new.file.reading }
         ensures stays { IsTrue (outlook self.old.file).is_over → (self.new.source ≡ self.old.source) × (self.new.file ≡ without_last self.old.file) }
         ensures same_end { IsTrue (outlook self.old.file).is_over → IsSameEnd self.old.file.reading result }
-        ensures cause { (outlook self.old.file).is_over ≡ false → result ≡ Next.ReadFault → Rose (S.faults self.old.source) (S.faults self.new.source) }
-        ensures later { S.faults self.old.source ≤ S.faults self.new.source }
+        ensures cause { Blames (((outlook self.old.file).is_over ≡ false) × (result ≡ Next.ReadFault)) (S.faults self.old.source) (S.faults self.new.source) }
         ensures marked { S.mark self.new.source ≡ S.mark self.old.source }
         ensures left { Loses (S.left self.old.source) (S.left self.new.source) }
         // no byte is lost between the chunks, and an end tells what stands there
@@ -138,8 +136,7 @@ impl<S: Source> FileReader<S> {
         ensures stands { StandsAt self.new.file self.new.file.reading }
         ensures stays { IsTrue (outlook self.old.file).is_over → (self.new.source ≡ self.old.source) × (self.new.file ≡ without_last self.old.file) }
         ensures same_end { IsTrue (outlook self.old.file).is_over → IsSameEnd self.old.file.reading (next_in self.old.file self.new.file result) }
-        ensures cause { (outlook self.old.file).is_over ≡ false → result ≡ Passed.ReadFault → Rose (S.faults self.old.source) (S.faults self.new.source) }
-        ensures later { S.faults self.old.source ≤ S.faults self.new.source }
+        ensures cause { Blames (((outlook self.old.file).is_over ≡ false) × (result ≡ Passed.ReadFault)) (S.faults self.old.source) (S.faults self.new.source) }
         ensures marked { S.mark self.new.source ≡ S.mark self.old.source }
         ensures left { Loses (S.left self.old.source) (S.left self.new.source) }
         ensures keeps { KeepsAll (S.left self.old.source) (S.left self.new.source) self.old.file self.new.file }
@@ -160,8 +157,7 @@ impl<S: Source> FileReader<S> {
         ensures stands { StandsAt self.new.file self.new.file.reading }
         ensures stays { IsTrue (outlook self.old.file).is_over → (self.new.source ≡ self.old.source) × (self.new.file ≡ without_last self.old.file) }
         ensures same_end { IsTrue (outlook self.old.file).is_over → IsSameEnd self.old.file.reading (next_in self.old.file self.new.file result.0) }
-        ensures cause { (outlook self.old.file).is_over ≡ false → result.0 ≡ Passed.ReadFault → Rose (S.faults self.old.source) (S.faults self.new.source) }
-        ensures later { S.faults self.old.source ≤ S.faults self.new.source }
+        ensures cause { Blames (((outlook self.old.file).is_over ≡ false) × (result.0 ≡ Passed.ReadFault)) (S.faults self.old.source) (S.faults self.new.source) }
         ensures marked { S.mark self.new.source ≡ S.mark self.old.source }
         ensures left { Loses (S.left self.old.source) (S.left self.new.source) }
         ensures keeps { KeepsAll (S.left self.old.source) (S.left self.new.source) self.old.file self.new.file }
@@ -190,8 +186,7 @@ impl<S: Source> FileReader<S> {
         ensures value { IsTrue wanted → HasValue (next_in self.old.file self.new.file result.0) result.1 }
         ensures limit { self.new.file.byte_limit ≡ self.old.file.byte_limit }
         ensures stands { StandsAt self.new.file self.new.file.reading }
-        ensures cause { result.0 ≡ Passed.ReadFault → Rose (S.faults self.old.source) (S.faults self.new.source) }
-        ensures later { S.faults self.old.source ≤ S.faults self.new.source }
+        ensures cause { Blames (result.0 ≡ Passed.ReadFault) (S.faults self.old.source) (S.faults self.new.source) }
         ensures marked { S.mark self.new.source ≡ S.mark self.old.source }
     {
         'pieces: loop {
@@ -218,15 +213,15 @@ impl<S: Source> FileReader<S> {
     pub fn skip_rest(&mut self) -> Rest
         requires stopped { HasStopped (S.left self.old.source) self.old.file self.old.file.reading }
         ensures first { self.old.skipped ≡ None → IsSkipped (S.left self.old.source) (S.left self.new.source) (had_ended self.old.file.reading) (self.old.file.place + length self.old.file.ahead) self.old.file.byte_limit result }
-        ensures cause { self.old.skipped ≡ None → result ≡ Rest.ReadFault → Rose (S.faults self.old.source) (S.faults self.new.source) }
+        ensures cause { Blames ((self.old.skipped ≡ None) × (result ≡ Rest.ReadFault)) (S.faults self.old.source) (S.faults self.new.source) }
         ensures ended { IsTrue (had_ended self.old.file.reading) → self.new.source ≡ self.old.source }
         ensures again { (rest : RestValue) → self.old.skipped ≡ Some rest → (result ≡ rest) × (self.new.source ≡ self.old.source) }
         ensures skipped { self.new.skipped ≡ Some result }
         ensures file { self.new.file ≡ self.old.file }
         ensures stopped { HasStopped (S.left self.new.source) self.new.file self.new.file.reading }
-        ensures later { S.faults self.old.source ≤ S.faults self.new.source }
         ensures marked { S.mark self.new.source ≡ S.mark self.old.source }
         ensures left { Loses (S.left self.old.source) (S.left self.new.source) }
+        ensures one_past { LosesAtMost (self.old.file.byte_limit + 1 - (self.old.file.place + length self.old.file.ahead)) (S.left self.old.source) (S.left self.new.source) }
     {
         if let Some(rest) = self.skipped {
             return rest;
@@ -343,8 +338,7 @@ impl<S: Source> FileReader<S> {
         ensures end { IfOk result (λ n. n ≡ 0 → IsAtEnd (S.left self.new.source)) }
         ensures kept { OnErr result (self.new.file ≡ self.old.file) }
         ensures left { OnErr result (Keeps (S.left self.old.source) (S.left self.new.source)) }
-        ensures failed { OnErr result (Rose (S.faults self.old.source) (S.faults self.new.source)) }
-        ensures later { S.faults self.old.source ≤ S.faults self.new.source }
+        ensures failed { HasCause (S.faults self.old.source) (S.faults self.new.source) result }
         ensures marked { S.mark self.new.source ≡ S.mark self.old.source }
         ensures skipped { self.new.skipped ≡ self.old.skipped }
     {

@@ -1,7 +1,8 @@
 //! Reads an input to its end.
 
 ghost use Rattle.std.specs.Prelude.{◌≡◌, ◌≤◌, ◌^◌, ◌+◌, ◌-◌, false};
-ghost use Rattle.rec_base.specs.Causes.{Rose};
+ghost use Rattle.rec_base.specs.Causes.{Blames};
+ghost use Rattle.rec_base.specs.Known.{LosesAtMost};
 ghost use Rattle.file_reader.specs.FileInlet.{IsSkipped};
 
 use crate::rest::Rest;
@@ -15,9 +16,9 @@ const PIECE: usize = 4096;
 pub(crate) fn skip_source<S: Source>(source: &mut S, taken: u64, limit: u64) -> Rest
     requires { limit ≤ 2 ^ 40 }
     ensures skipped { IsSkipped (S.left source.old) (S.left source.new) false taken limit result }
-    ensures cause { result ≡ Rest.ReadFault → Rose (S.faults source.old) (S.faults source.new) }
-    ensures later { S.faults source.old ≤ S.faults source.new }
+    ensures cause { Blames (result ≡ Rest.ReadFault) (S.faults source.old) (S.faults source.new) }
     ensures marked { S.mark source.new ≡ S.mark source.old }
+    ensures one_past { LosesAtMost (limit + 1 - taken) (S.left source.old) (S.left source.new) }
 {
     let mut buffer = [0; PIECE];
     let mut size = taken;

@@ -24,6 +24,7 @@ pub record IsRead {S M I E : Type 0} (left_of : S → Option (List ℕ)) (faults
   pub lost : Consumes (left_of first) (left_of last) taken
   pub ends : EndsSo (kind end) reader taken (left_of last) items end
   pub cause : kind end ≡ at_fault → Rose (faults_of first) (faults_of last)
+  pub quiet : (kind end ≡ at_fault → ⊥) → faults_of last ≡ faults_of first
 
 -- the items and the end are those of the whole text; where a read failed, those of the bytes before it
 pub record IsReadingOf {I E : Type 0} (kind : E → Kind) (reader : Reader I E) (text : List ℕ) (items : List I) (end : E) : Type 0 where

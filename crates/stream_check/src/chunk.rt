@@ -1,6 +1,7 @@
 //! Takes a chunk into account, and says what is to be noted of it.
 
-ghost use Rattle.std.specs.Prelude.{◌≡◌, ◌≤◌, ◌∷◌, ◌++◌, List, [], IfOk, OnOk, length, map};
+ghost use Rattle.std.specs.Prelude.{◌≡◌, ◌≤◌, ◌∷◌, ◌++◌, List, [], IfOk, OnOk, length, map, IsErrOf};
+ghost use Rattle.rec_base.specs.Causes.{Blames};
 ghost use Rattle.file_model.specs.Reader.{ChunkAt};
 ghost use Rattle.report_model.specs.Check.{note_line};
 ghost use Rattle.report_model.specs.Notes.{notes_in};
@@ -29,7 +30,7 @@ pub(crate) fn take_chunk<L: Lines>(
     ensures count { (items : List ChunkAt) → Knows items survey.old → FitsIn (context_of items) chunk → IfOk result (λ n. n ≡ length (notes_in (table_behind first items at chunk))) }
     ensures knows { (items : List ChunkAt) → Knows items survey.old → FitsIn (context_of items) chunk → OnOk result (Knows (items ++ (at, chunk) ∷ []) survey.new) }
     ensures few { IfOk result (λ n. n ≤ 7) }
-    ensures later { L.print_faults lines.old ≤ L.print_faults lines.new }
+    ensures cause { Blames (IsErrOf result SayFault.Print) (L.print_faults lines.old) (L.print_faults lines.new) }
     ensures rest { L.rest lines.new ≡ L.rest lines.old }
 {
     let repeated = survey.is_repeated(&chunk);

@@ -2,7 +2,7 @@
 
 ghost use Rattle.std.specs.Prelude.{◌≡◌, ◌≤◌, ◌<◌, ◌+◌, ◌^◌, ◌⊎◌, ℕ, List, [], IsTrue, false, length};
 ghost use Rattle.std.specs.Io.KnownBytes.{Appends, Consumes};
-ghost use Rattle.rec_base.specs.Causes.{Rose};
+ghost use Rattle.rec_base.specs.Causes.{Blames, Rose};
 ghost use Rattle.rec_base.specs.Known.{AppendsFront};
 ghost use Rattle.reading_model.specs.Read.{IsRead};
 ghost use Rattle.file_model.specs.declared.end.FileEnd.{FileEnd as FileEndValue};
@@ -78,7 +78,7 @@ fn finish<L: Lines>(
     ensures print { result ≡ CheckEnd.PrintFault → AppendsFront (L.printed lines.old) (L.printed lines.new) (printed_lines (last_lines survey.ledger survey.streams.items chunks notes end))
         × Rose (L.print_faults lines.old) (L.print_faults lines.new) }
     ensures memory { result ≡ CheckEnd.Memory → SaysSome (L.printed lines.old) (L.printed lines.new) (last_lines survey.ledger survey.streams.items chunks notes end) }
-    ensures later { L.print_faults lines.old ≤ L.print_faults lines.new }
+    ensures cause { Blames (result ≡ CheckEnd.PrintFault) (L.print_faults lines.old) (L.print_faults lines.new) }
     ensures rest { L.rest lines.new ≡ L.rest lines.old }
 {
     match say_last(
@@ -127,7 +127,8 @@ pub fn check_file<S: Source, L: Lines>(
         ⊎ ((chunks : List ChunkAt) × (end : FileEndValue)
         × IsRead S.left S.faults S.mark file_kind (outlook reader.old.file).coming reader.old.source reader.new.source chunks end
         × SaysSome (L.printed lines.old) (L.printed lines.new) (check_lines (chunks, end))) }
-    ensures later { L.print_faults lines.old ≤ L.print_faults lines.new }
+    ensures reads { Blames (result ≡ CheckEnd.ReadFault) (S.faults reader.old.source) (S.faults reader.new.source) }
+    ensures cause { Blames (result ≡ CheckEnd.PrintFault) (L.print_faults lines.old) (L.print_faults lines.new) }
     ensures rest { L.rest lines.new ≡ L.rest lines.old }
 {
     let mut survey = Survey::new(alloc);
@@ -145,6 +146,7 @@ pub fn check_file<S: Source, L: Lines>(
                     Err(SayFault::Memory) => return CheckEnd::Memory,
                 }
             }
+            Step::End(FileEnd::ReadFault) => return CheckEnd::ReadFault,
             Step::End(end) => return finish(alloc, lines, survey, chunks, notes, end),
             Step::Memory => return CheckEnd::Memory,
         }

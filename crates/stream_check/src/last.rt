@@ -1,6 +1,7 @@
 //! Says what stands behind the notes of the chunks.
 
-ghost use Rattle.std.specs.Prelude.{◌≡◌, ◌≤◌, ◌<◌, ◌+◌, ◌*◌, ◌^◌, ◌++◌, ◌∷◌, ◌==◌, ◌&&◌, None, not, [], IfOk, length, map, if◌then◌else◌};
+ghost use Rattle.std.specs.Prelude.{◌≡◌, ◌≤◌, ◌<◌, ◌+◌, ◌*◌, ◌^◌, ◌++◌, ◌∷◌, ◌==◌, ◌&&◌, None, not, [], IfOk, length, map, if◌then◌else◌, IsErrOf};
+ghost use Rattle.rec_base.specs.Causes.{Blames};
 ghost use Rattle.report_model.specs.Check.{note_line, sum_lines};
 ghost use Rattle.report_model.specs.Notes.{end_notes, notes_in};
 ghost use Rattle.report_model.specs.Notes as notes;
@@ -31,7 +32,7 @@ fn say_stream<L: Lines>(
     ensures told { Tells result (L.printed lines.old) (L.printed lines.new) (L.print_faults lines.old) (L.print_faults lines.new) (map note_line (notes_in (kept_table ledger kept.now))) }
     ensures count { IfOk result (λ n. n ≡ length (notes_in (kept_table ledger kept.now))) }
     ensures few { IfOk result (λ n. n ≤ 2) }
-    ensures later { L.print_faults lines.old ≤ L.print_faults lines.new }
+    ensures cause { Blames (IsErrOf result SayFault.Print) (L.print_faults lines.old) (L.print_faults lines.new) }
     ensures rest { L.rest lines.new ≡ L.rest lines.old }
 {
     let id = Some(kept.id);
@@ -66,7 +67,7 @@ fn say_streams<L: Lines>(
     ensures told { Tells result (L.printed lines.old) (L.printed lines.new) (L.print_faults lines.old) (L.print_faults lines.new) (map note_line (kept_notes ledger streams.now)) }
     ensures count { IfOk result (λ n. n ≡ length (kept_notes ledger streams.now)) }
     ensures few { IfOk result (λ n. n < 2 ^ 66) }
-    ensures later { L.print_faults lines.old ≤ L.print_faults lines.new }
+    ensures cause { Blames (IsErrOf result SayFault.Print) (L.print_faults lines.old) (L.print_faults lines.new) }
     ensures rest { L.rest lines.new ≡ L.rest lines.old }
 {
     let mut count: u128 = 0;
@@ -90,7 +91,7 @@ fn say_known<L: Lines>(
     ensures told { Tells result (L.printed lines.old) (L.printed lines.new) (L.print_faults lines.old) (L.print_faults lines.new) (map note_line (if notes.is_stopped end then [] else kept_notes ledger streams.now)) }
     ensures count { IfOk result (λ n. n ≡ length (if notes.is_stopped end then [] else kept_notes ledger streams.now)) }
     ensures few { IfOk result (λ n. n < 2 ^ 66) }
-    ensures later { L.print_faults lines.old ≤ L.print_faults lines.new }
+    ensures cause { Blames (IsErrOf result SayFault.Print) (L.print_faults lines.old) (L.print_faults lines.new) }
     ensures rest { L.rest lines.new ≡ L.rest lines.old }
 {
     if is_stopped(end) {
@@ -109,7 +110,7 @@ fn say_end<L: Lines>(
     ensures told { Tells result (L.printed lines.old) (L.printed lines.new) (L.print_faults lines.old) (L.print_faults lines.new) (map note_line (notes_in ((chunks == 0 && not (notes.is_stopped end), notes.note 1 None 4) ∷ []) ++ end_notes end)) }
     ensures count { IfOk result (λ n. n ≡ length (notes_in ((chunks == 0 && not (notes.is_stopped end), notes.note 1 None 4) ∷ []) ++ end_notes end)) }
     ensures few { IfOk result (λ n. n ≤ 2) }
-    ensures later { L.print_faults lines.old ≤ L.print_faults lines.new }
+    ensures cause { Blames (IsErrOf result SayFault.Print) (L.print_faults lines.old) (L.print_faults lines.new) }
     ensures rest { L.rest lines.new ≡ L.rest lines.old }
 {
     let table = [
@@ -128,7 +129,7 @@ fn say_sum<L: Lines>(
     end: FileEnd,
 ) -> Result<(), SayFault>
     ensures told { Tells result (L.printed lines.old) (L.printed lines.new) (L.print_faults lines.old) (L.print_faults lines.new) (sum_lines chunks count end) }
-    ensures later { L.print_faults lines.old ≤ L.print_faults lines.new }
+    ensures cause { Blames (IsErrOf result SayFault.Print) (L.print_faults lines.old) (L.print_faults lines.new) }
     ensures rest { L.rest lines.new ≡ L.rest lines.old }
 {
     if is_stopped(end) {
@@ -154,7 +155,7 @@ pub(crate) fn say_last<L: Lines>(
     requires few { notes < 2 ^ 70 }
     ensures told { Tells result (L.printed lines.old) (L.printed lines.new) (L.print_faults lines.old) (L.print_faults lines.new) (last_lines ledger streams.now chunks notes end) }
     ensures count { IfOk result (λ n. n ≡ notes + length (last_notes ledger streams.now chunks end)) }
-    ensures later { L.print_faults lines.old ≤ L.print_faults lines.new }
+    ensures cause { Blames (IsErrOf result SayFault.Print) (L.print_faults lines.old) (L.print_faults lines.new) }
     ensures rest { L.rest lines.new ≡ L.rest lines.old }
 {
     let ends = match say_end(alloc, lines, chunks, end) {

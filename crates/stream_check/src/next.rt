@@ -1,7 +1,7 @@
 //! What a reader gives.
 
 ghost use Rattle.std.specs.Prelude.{◌≡◌, ◌≤◌, false};
-ghost use Rattle.rec_base.specs.Causes.{Rose};
+ghost use Rattle.rec_base.specs.Causes.{Blames};
 ghost use Rattle.reading_model.specs.Outlook.{Answered};
 ghost use Rattle.file_model.specs.Reader.{file_kind};
 ghost use Rattle.file_model.specs.declared.end.FileEnd.TheVariants as ends;
@@ -26,8 +26,7 @@ pub(crate) fn read_next<S: Source>(reader: &mut FileReader<S>) -> Step
     ensures answer { Answered file_kind (outlook reader.old.file) (outlook reader.new.file) (S.left reader.old.source) (S.left reader.new.source) (got_step result) }
     ensures chunk { IsGivenStep reader.old.file reader.new.file result }
     ensures limit { reader.new.file.byte_limit ≡ reader.old.file.byte_limit }
-    ensures cause { (outlook reader.old.file).is_over ≡ false → result ≡ steps.End ends.ReadFault → Rose (S.faults reader.old.source) (S.faults reader.new.source) }
-    ensures later { S.faults reader.old.source ≤ S.faults reader.new.source }
+    ensures cause { Blames (((outlook reader.old.file).is_over ≡ false) × (result ≡ steps.End ends.ReadFault)) (S.faults reader.old.source) (S.faults reader.new.source) }
     ensures marked { S.mark reader.new.source ≡ S.mark reader.old.source }
 {
     match reader.next() {

@@ -1,6 +1,7 @@
 //! Says notes.
 
-ghost use Rattle.std.specs.Prelude.{◌≡◌, ◌≤◌, ◌∷◌, [], IfOk, length, map, string_bytes};
+ghost use Rattle.std.specs.Prelude.{◌≡◌, ◌≤◌, ◌∷◌, [], IfOk, length, map, string_bytes, IsErrOf};
+ghost use Rattle.rec_base.specs.Causes.{Blames};
 ghost use Rattle.report_model.specs.Check.{note_line};
 ghost use Rattle.report_model.specs.Notes.{notes_in};
 ghost use Rattle.stream_check.specs.Telling.{Tells};
@@ -13,7 +14,7 @@ use stream_report::SayFault;
 /// Says one line.
 pub(crate) fn say_line<L: Lines>(lines: &mut L, line: &str) -> Result<(), SayFault>
     ensures told { Tells result (L.printed lines.old) (L.printed lines.new) (L.print_faults lines.old) (L.print_faults lines.new) (line.now ∷ []) }
-    ensures later { L.print_faults lines.old ≤ L.print_faults lines.new }
+    ensures cause { Blames (IsErrOf result SayFault.Print) (L.print_faults lines.old) (L.print_faults lines.new) }
     ensures rest { L.rest lines.new ≡ L.rest lines.old }
 {
     match lines.say(line) {
@@ -36,7 +37,7 @@ fn note_text(alloc: Global, note: &Note) -> Result<String, Memory>
 // Says the line of a note.
 fn say_note<L: Lines>(alloc: Global, lines: &mut L, note: &Note) -> Result<(), SayFault>
     ensures told { Tells result (L.printed lines.old) (L.printed lines.new) (L.print_faults lines.old) (L.print_faults lines.new) (note_line note.now ∷ []) }
-    ensures later { L.print_faults lines.old ≤ L.print_faults lines.new }
+    ensures cause { Blames (IsErrOf result SayFault.Print) (L.print_faults lines.old) (L.print_faults lines.new) }
     ensures rest { L.rest lines.new ≡ L.rest lines.old }
 {
     match note_text(alloc, note) {
@@ -50,7 +51,7 @@ fn say_row<L: Lines>(alloc: Global, lines: &mut L, row: &(bool, Note)) -> Result
     ensures told { Tells result (L.printed lines.old) (L.printed lines.new) (L.print_faults lines.old) (L.print_faults lines.new) (map note_line (notes_in (row.now ∷ []))) }
     ensures count { IfOk result (λ n. n ≡ length (notes_in (row.now ∷ []))) }
     ensures few { IfOk result (λ n. n ≤ 1) }
-    ensures later { L.print_faults lines.old ≤ L.print_faults lines.new }
+    ensures cause { Blames (IsErrOf result SayFault.Print) (L.print_faults lines.old) (L.print_faults lines.new) }
     ensures rest { L.rest lines.new ≡ L.rest lines.old }
 {
     if !row.0 {
@@ -71,7 +72,7 @@ pub(crate) fn say_notes<L: Lines>(
     ensures told { Tells result (L.printed lines.old) (L.printed lines.new) (L.print_faults lines.old) (L.print_faults lines.new) (map note_line (notes_in table.now)) }
     ensures count { IfOk result (λ n. n ≡ length (notes_in table.now)) }
     ensures few { IfOk result (λ n. n ≤ length table.now) }
-    ensures later { L.print_faults lines.old ≤ L.print_faults lines.new }
+    ensures cause { Blames (IsErrOf result SayFault.Print) (L.print_faults lines.old) (L.print_faults lines.new) }
     ensures rest { L.rest lines.new ≡ L.rest lines.old }
 {
     let mut count: u64 = 0;

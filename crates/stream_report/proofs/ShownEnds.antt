@@ -1,8 +1,8 @@
 -- The end of a file, behind its chunks.
-use Rattle.std.proofs.Common.{◌≡◌, ℕ, ◌≤◌, List, [], ◌++◌, length, Option, refl, sym, ap, ◌∙◌, subst, arith}
+use Rattle.std.proofs.Common.{◌≡◌, ℕ, List, [], ◌++◌, length, Option, refl, sym, ap, ◌∙◌, subst, arith}
 use Rattle.std.specs.Io.KnownBytes.{Appends, Consumes}
 use Rattle.std.proofs.KnownBytes.{Appends-trans, Consumes-trans}
-use Rattle.rec_base.specs.Causes.{Rose}
+use Rattle.rec_base.specs.Causes.{Blames}
 use Rattle.rec_base.specs.Known.{AppendsFront}
 use Rattle.reading_model.specs.Outlook.{Got, end, at_fault, Answered}
 use Rattle.reading_model.specs.Read.{Reader, IsRead}
@@ -23,20 +23,25 @@ fault_alone (Bad at why) k = absurd cc
 fault_alone ReadFault k = refl
 fault_alone SizeLimit k = absurd cc
 
+-- a read that failed is blamed on the end, by what a reader blames it on
+pub blamed_end : {F : Type 0} (e : FileEnd) (a b : ℕ) → (e ≡ ReadFault → F) → (F → e ≡ ReadFault) → Blames F a b → Blames (e ≡ ReadFault) a b
+blamed_end e a b to from h = record { later = h.later; rose = λ is. h.rose (to is); quiet = λ other. h.quiet (λ fault. other (from fault)) }
+
 -- what the reader gave up to its end
 pub read_so : {S M : Type 0} (left_of : S → Option (List ℕ)) (faults_of : S → ℕ) (mark_of : S → M) (reader : Reader ChunkAt FileEnd) (source mid last : S) (now new : FileInlet) (items : List ChunkAt) (e : FileEnd)
     → Begun (fresh reader) (outlook now) (left_of source) (left_of mid) items → Answered file_kind (outlook now) (outlook new) (left_of mid) (left_of last) (end e)
-    → mark_of mid ≡ mark_of source → mark_of last ≡ mark_of mid → faults_of source ≤ faults_of mid → faults_of mid ≤ faults_of last → (e ≡ ReadFault → Rose (faults_of mid) (faults_of last))
+    → mark_of mid ≡ mark_of source → mark_of last ≡ mark_of mid → faults_of mid ≡ faults_of source → Blames (e ≡ ReadFault) (faults_of mid) (faults_of last)
     → IsRead left_of faults_of mark_of file_kind reader source last items e
-read_so left_of faults_of mark_of reader source mid last now new items e k t marked marks later more cause =
+read_so left_of faults_of mark_of reader source mid last now new items e k t marked marks still cause =
     let r = ends_so file_kind reader (outlook now) (outlook new) (left_of source) (left_of mid) (left_of last) items e k t in
     record {
       marked = marks ∙ marked;
-      later = omega (arith, later, more);
+      later = omega (arith, still, cause.later);
       taken = r.0;
       lost = r.1;
       ends = r.2;
-      cause = λ is. omega (arith, cause (fault_alone e is), later);
+      cause = λ is. let rose = cause.rose (fault_alone e is) in omega (arith, rose, still);
+      quiet = λ other. cause.quiet (λ is. other (ap file_kind is)) ∙ still;
     }
 
 module _ (reader : Reader ChunkAt FileEnd) (now : FileInlet) (a b printed printed' : Option (List ℕ)) (count : ℕ) (k : ShownSo reader now a b printed printed' count) where

@@ -2,7 +2,7 @@
 
 ghost use Rattle.std.specs.Prelude.{◌≡◌, ◌≤◌, ◌⊎◌, ◌∷◌, ℕ, List, [], take, IsTrue, false, IfOk, OnOk, OnErr, IsErrOf, MatchOption, string_bytes};
 ghost use Rattle.std.specs.Io.KnownBytes.{Appends, Consumes};
-ghost use Rattle.rec_base.specs.Causes.{Rose};
+ghost use Rattle.rec_base.specs.Causes.{Blames, Rose};
 ghost use Rattle.rec_base.specs.Known.{AppendsFront};
 ghost use Rattle.reading_model.specs.Read.{IsRead};
 ghost use Rattle.file_model.specs.declared.end.FileEnd.{FileEnd as FileEndValue};
@@ -62,7 +62,7 @@ fn say_end<L: Lines>(alloc: Global, lines: &mut L, count: u64, end: FileEnd) -> 
         × Rose (L.print_faults lines.old) (L.print_faults lines.new) }
     ensures memory { IsErrOf result SayFault.Memory → L.printed lines.new ≡ L.printed lines.old }
     ensures none_else { OnErr result (IsErrOf result SayFault.Print ⊎ IsErrOf result SayFault.Memory) }
-    ensures later { L.print_faults lines.old ≤ L.print_faults lines.new }
+    ensures cause { Blames (IsErrOf result SayFault.Print) (L.print_faults lines.old) (L.print_faults lines.new) }
     ensures rest { L.rest lines.new ≡ L.rest lines.old }
 {
     match end_line(alloc, count, end)? {
@@ -89,7 +89,7 @@ fn finish<L: Lines>(alloc: Global, lines: &mut L, count: u64, end: FileEnd) -> S
     ensures print { result ≡ ShowEnd.PrintFault → AppendsFront (L.printed lines.old) (L.printed lines.new) (printed_lines (end_lines count end))
         × Rose (L.print_faults lines.old) (L.print_faults lines.new) }
     ensures memory { result ≡ ShowEnd.Memory → L.printed lines.new ≡ L.printed lines.old }
-    ensures later { L.print_faults lines.old ≤ L.print_faults lines.new }
+    ensures cause { Blames (result ≡ ShowEnd.PrintFault) (L.print_faults lines.old) (L.print_faults lines.new) }
     ensures rest { L.rest lines.new ≡ L.rest lines.old }
 {
     match say_end(alloc, lines, count, end) {
@@ -111,7 +111,7 @@ fn say_given<L: Lines>(
     ensures print { IsErrOf result SayFault.Print → AppendsFront (L.printed lines.old) (L.printed lines.new) (printed_lines (chunk_lines ctx.now at chunk))
         × Rose (L.print_faults lines.old) (L.print_faults lines.new) }
     ensures memory { IsErrOf result SayFault.Memory → (n : ℕ) × Appends (L.printed lines.old) (L.printed lines.new) (printed_lines (take n (chunk_lines ctx.now at chunk))) }
-    ensures later { L.print_faults lines.old ≤ L.print_faults lines.new }
+    ensures cause { Blames (IsErrOf result SayFault.Print) (L.print_faults lines.old) (L.print_faults lines.new) }
     ensures rest { L.rest lines.new ≡ L.rest lines.old }
 {
     say_chunk(alloc, lines, ctx, at, &chunk)
@@ -146,7 +146,8 @@ pub fn show_file<S: Source, L: Lines>(
     // some of the first lines, each whole
     ensures memory { result ≡ ShowEnd.Memory → (taken : List ℕ) × (said : List (List ℕ)) × Consumes (S.left reader.old.source) (S.left reader.new.source) taken
         × AreFirstLines (outlook reader.old.file).coming taken said × Appends (L.printed lines.old) (L.printed lines.new) (printed_lines said) }
-    ensures later { L.print_faults lines.old ≤ L.print_faults lines.new }
+    ensures reads { Blames (result ≡ ShowEnd.ReadFault) (S.faults reader.old.source) (S.faults reader.new.source) }
+    ensures cause { Blames (result ≡ ShowEnd.PrintFault) (L.print_faults lines.old) (L.print_faults lines.new) }
     ensures rest { L.rest lines.new ≡ L.rest lines.old }
 {
     let mut count: u64 = 0;
@@ -164,8 +165,8 @@ pub fn show_file<S: Source, L: Lines>(
                 return finish(alloc, lines, count, FileEnd::Torn { at, left });
             }
             Next::Bad { at, why } => return finish(alloc, lines, count, FileEnd::Bad { at, why }),
-            Next::ReadFault => return finish(alloc, lines, count, FileEnd::ReadFault),
-            Next::SizeLimit => return finish(alloc, lines, count, FileEnd::SizeLimit),
+            Next::ReadFault => return ShowEnd::ReadFault,
+            Next::SizeLimit => return ShowEnd::SizeLimit,
             Next::Memory => return ShowEnd::Memory,
         }
     }

@@ -2,7 +2,7 @@
 
 ghost use Rattle.std.specs.Prelude.{◌≡◌, ◌≤◌, ◌⊎◌, ℕ, List, map, take, OnOk, OnErr, IsErrOf};
 ghost use Rattle.std.specs.Io.KnownBytes.{Appends};
-ghost use Rattle.rec_base.specs.Causes.{Rose};
+ghost use Rattle.rec_base.specs.Causes.{Blames, Rose};
 ghost use Rattle.rec_base.specs.Known.{AppendsFront, printed_line};
 ghost use Rattle.report_model.specs.Lines.{chunk_lines, sample_line};
 ghost use Rattle.report_model.specs.Shown.{printed_lines};
@@ -23,7 +23,7 @@ pub(crate) fn say_line<L: Lines>(lines: &mut L, line: &str) -> Result<(), SayFau
     ensures print { OnErr result (AppendsFront (L.printed lines.old) (L.printed lines.new) (printed_line line.now)
         × Rose (L.print_faults lines.old) (L.print_faults lines.new)) }
     ensures none_else { OnErr result (IsErrOf result SayFault.Print) }
-    ensures later { L.print_faults lines.old ≤ L.print_faults lines.new }
+    ensures cause { Blames (IsErrOf result SayFault.Print) (L.print_faults lines.old) (L.print_faults lines.new) }
     ensures rest { L.rest lines.new ≡ L.rest lines.old }
 {
     match lines.say(line) {
@@ -44,7 +44,7 @@ fn say_sample<L: Lines>(
         × Rose (L.print_faults lines.old) (L.print_faults lines.new) }
     ensures memory { IsErrOf result SayFault.Memory → L.printed lines.new ≡ L.printed lines.old }
     ensures none_else { OnErr result (IsErrOf result SayFault.Print ⊎ IsErrOf result SayFault.Memory) }
-    ensures later { L.print_faults lines.old ≤ L.print_faults lines.new }
+    ensures cause { Blames (IsErrOf result SayFault.Print) (L.print_faults lines.old) (L.print_faults lines.new) }
     ensures rest { L.rest lines.new ≡ L.rest lines.old }
 {
     put_sample_line(line, format, sample)?;
@@ -63,7 +63,7 @@ fn say_samples<L: Lines>(
         × Rose (L.print_faults lines.old) (L.print_faults lines.new) }
     ensures memory { IsErrOf result SayFault.Memory → (n : ℕ) × Appends (L.printed lines.old) (L.printed lines.new) (printed_lines (take n (map (sample_line format) samples.now))) }
     ensures none_else { OnErr result (IsErrOf result SayFault.Print ⊎ IsErrOf result SayFault.Memory) }
-    ensures later { L.print_faults lines.old ≤ L.print_faults lines.new }
+    ensures cause { Blames (IsErrOf result SayFault.Print) (L.print_faults lines.old) (L.print_faults lines.new) }
     ensures rest { L.rest lines.new ≡ L.rest lines.old }
 {
     let mut line = Line::new(alloc);
@@ -86,7 +86,7 @@ pub(crate) fn say_later<L: Lines>(
         × Rose (L.print_faults lines.old) (L.print_faults lines.new) }
     ensures memory { IsErrOf result SayFault.Memory → (n : ℕ) × Appends (L.printed lines.old) (L.printed lines.new) (printed_lines (take n (later_lines ctx.now chunk.now))) }
     ensures none_else { OnErr result (IsErrOf result SayFault.Print ⊎ IsErrOf result SayFault.Memory) }
-    ensures later { L.print_faults lines.old ≤ L.print_faults lines.new }
+    ensures cause { Blames (IsErrOf result SayFault.Print) (L.print_faults lines.old) (L.print_faults lines.new) }
     ensures rest { L.rest lines.new ≡ L.rest lines.old }
 {
     match chunk {
@@ -125,7 +125,7 @@ pub fn say_chunk<L: Lines>(
         × Rose (L.print_faults lines.old) (L.print_faults lines.new) }
     ensures memory { IsErrOf result SayFault.Memory → (n : ℕ) × Appends (L.printed lines.old) (L.printed lines.new) (printed_lines (take n (chunk_lines ctx.now at chunk.now))) }
     ensures none_else { OnErr result (IsErrOf result SayFault.Print ⊎ IsErrOf result SayFault.Memory) }
-    ensures later { L.print_faults lines.old ≤ L.print_faults lines.new }
+    ensures cause { Blames (IsErrOf result SayFault.Print) (L.print_faults lines.old) (L.print_faults lines.new) }
     ensures rest { L.rest lines.new ≡ L.rest lines.old }
 {
     let line = chunk_line(alloc, at, chunk)?;

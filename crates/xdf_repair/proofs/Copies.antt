@@ -24,9 +24,17 @@ use Rattle.file_model.specs.declared.next.Next.TheVariants.{Chunk, End, Torn, Ba
 use Rattle.file_reader.specs.FileInlet.{FileInlet, HasStopped, IsGiven, IsSkipped, KeepsAll, Stops, Tells, got, had_ended, outlook}
 use Rattle.xdf_repair.specs.declared.repaired.Repaired.{Repaired}
 use Rattle.xdf_repair.specs.declared.repaired.Repaired.TheVariants as repaired
+use Rattle.xdf_repair.specs.declared.turn.Turn.{Turn}
 use Rattle.xdf_repair.specs.declared.turn.Turn.TheVariants.{Copy, Skip, Stop}
+use Rattle.file_reader.specs.declared.passed.Passed.{Passed}
+use Rattle.file_reader.specs.declared.passed.Passed.TheVariants as passed
+use Rattle.file_reader.specs.AsNext.{as_next}
 use Rattle.xdf_repair.specs.Repair.{IsCutOff, IsFresh, IsRepair, RepairedSo}
 use Rattle.xdf_repair.specs.Copying.{Gathers, IsCopied, IsGathered, IsMet, NoneStands, turn_by}
+
+-- the turn tells that no read failed
+pub no_fault : (context : Context) (text : List ℕ) (p : Passed) (turn : Turn) → turn_by (as_next context text p) ≡ turn → (turn ≡ Stop repaired.ReadFault → ⊥) → p ≡ passed.ReadFault → ⊥
+no_fault context text p turn is other fault = other (sym is ∙ ap (λ (x : Passed). turn_by (as_next context text x)) fault)
 
 -- texts of the chunks and of one more
 are_more : (ctx : Context) (cs : List ChunkValue) (c : ChunkValue) (y x : List ℕ) → AreChunkTexts ctx cs y → IsChunkText (context_after_all ctx cs) c x → AreChunkTexts ctx (cs ++ c ∷ []) (y ++ x)

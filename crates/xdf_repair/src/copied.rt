@@ -1,7 +1,7 @@
 //! Writes the whole chunks at the front of a file.
 
 ghost use Rattle.std.specs.Prelude.{◌≡◌, ◌≤◌, None, IfOk, IfErr, OnOk, IsErrOf};
-ghost use Rattle.rec_base.specs.Causes.{Rose};
+ghost use Rattle.rec_base.specs.Causes.{Blames, Rose};
 ghost use Rattle.file_reader.specs.FileInlet.{HasStopped};
 ghost use Rattle.xdf_repair.specs.Repair.{IsFresh, RepairedSo};
 ghost use Rattle.xdf_repair.specs.Copying.{IsCopied, NoneStands};
@@ -34,9 +34,9 @@ pub(crate) fn copy_chunks<S: Source, K: Sink>(
     ensures err { IfErr result (λ fault. RepairedSo (S.left reader.old.source) (S.left reader.new.source) (K.held sink.old) (K.held sink.new) reader.old.file.byte_limit fault) }
     ensures limit { reader.new.file.byte_limit ≡ reader.old.file.byte_limit }
     ensures read_fault { IsErrOf result Repaired.ReadFault → Rose (S.faults reader.old.source) (S.faults reader.new.source) }
-    ensures write_fault { IsErrOf result Repaired.WriteFault → Rose (K.write_faults sink.old) (K.write_faults sink.new) }
     ensures read_later { S.faults reader.old.source ≤ S.faults reader.new.source }
-    ensures write_later { K.write_faults sink.old ≤ K.write_faults sink.new }
+    ensures read_quiet { (IsErrOf result Repaired.ReadFault → ⊥) → (IsErrOf result Repaired.WriteFault → ⊥) → S.faults reader.new.source ≡ S.faults reader.old.source }
+    ensures write_fault { Blames (IsErrOf result Repaired.WriteFault) (K.write_faults sink.old) (K.write_faults sink.new) }
     ensures marked { S.mark reader.new.source ≡ S.mark reader.old.source }
     ensures rest { K.rest sink.new ≡ K.rest sink.old }
 {

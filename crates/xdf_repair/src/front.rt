@@ -1,7 +1,7 @@
 //! Repairs a file from its front.
 
 ghost use Rattle.std.specs.Prelude.{◌≡◌, ◌≤◌};
-ghost use Rattle.rec_base.specs.Causes.{Rose};
+ghost use Rattle.rec_base.specs.Causes.{Blames, Rose};
 ghost use Rattle.rec_base.specs.Known.{Loses};
 ghost use Rattle.xdf_repair.specs.Repair.{IsFresh, RepairedSo};
 
@@ -23,9 +23,9 @@ pub fn repair_front<S: Source, K: Sink>(reader: &mut FileReader<S>, sink: &mut K
     requires fresh { IsFresh reader.old.file reader.old.skipped }
     ensures repaired { RepairedSo (S.left reader.old.source) (S.left reader.new.source) (K.held sink.old) (K.held sink.new) reader.old.file.byte_limit result }
     ensures read_fault { result ≡ Repaired.ReadFault → Rose (S.faults reader.old.source) (S.faults reader.new.source) }
-    ensures write_fault { result ≡ Repaired.WriteFault → Rose (K.write_faults sink.old) (K.write_faults sink.new) }
     ensures read_later { S.faults reader.old.source ≤ S.faults reader.new.source }
-    ensures write_later { K.write_faults sink.old ≤ K.write_faults sink.new }
+    ensures read_quiet { (result ≡ Repaired.ReadFault → ⊥) → (result ≡ Repaired.WriteFault → ⊥) → S.faults reader.new.source ≡ S.faults reader.old.source }
+    ensures write_fault { Blames (result ≡ Repaired.WriteFault) (K.write_faults sink.old) (K.write_faults sink.new) }
     ensures marked { S.mark reader.new.source ≡ S.mark reader.old.source }
     ensures left { Loses (S.left reader.old.source) (S.left reader.new.source) }
     ensures rest { K.rest sink.new ≡ K.rest sink.old }

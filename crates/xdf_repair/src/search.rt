@@ -1,7 +1,7 @@
 //! Repairs a file behind damage too.
 
 ghost use Rattle.std.specs.Prelude.{◌≡◌, ◌≤◌};
-ghost use Rattle.rec_base.specs.Causes.{Rose};
+ghost use Rattle.rec_base.specs.Causes.{Blames, Rose};
 ghost use Rattle.rec_base.specs.Known.{Loses};
 ghost use Rattle.boundary_search.specs.Salvage.{IsFresh};
 ghost use Rattle.xdf_repair.specs.Search.{SearchedSo};
@@ -26,9 +26,9 @@ pub fn repair_search<S: Source, K: Sink>(salvager: &mut Salvager<S>, sink: &mut 
     requires fresh { IsFresh salvager.old }
     ensures repaired { SearchedSo (S.left salvager.old.source) (S.left salvager.new.source) (K.held sink.old) (K.held sink.new) salvager.old.file.byte_limit result }
     ensures read_fault { result ≡ Repaired.ReadFault → Rose (S.faults salvager.old.source) (S.faults salvager.new.source) }
-    ensures write_fault { result ≡ Repaired.WriteFault → Rose (K.write_faults sink.old) (K.write_faults sink.new) }
     ensures read_later { S.faults salvager.old.source ≤ S.faults salvager.new.source }
-    ensures write_later { K.write_faults sink.old ≤ K.write_faults sink.new }
+    ensures read_quiet { (result ≡ Repaired.ReadFault → ⊥) → (result ≡ Repaired.WriteFault → ⊥) → S.faults salvager.new.source ≡ S.faults salvager.old.source }
+    ensures write_fault { Blames (result ≡ Repaired.WriteFault) (K.write_faults sink.old) (K.write_faults sink.new) }
     ensures marked { S.mark salvager.new.source ≡ S.mark salvager.old.source }
     ensures left { Loses (S.left salvager.old.source) (S.left salvager.new.source) }
     ensures rest { K.rest sink.new ≡ K.rest sink.old }

@@ -12,7 +12,7 @@ pieces-init g c = record {
   searching = begins (g.S.Source.left c.args.reader.now.source) c.args.ended.now c.args.reader.now.file c.requires.stands;
   closed = λ t. grind arith;
   still = λ t. refl;
-  later = omega arith;
+  quiet = refl;
   marked = refl;
 }
 
@@ -47,7 +47,7 @@ pieces-preserved-in-Ok-eq0 g c =
           (g.S.Source.left c.take_behind.new.self.source) more.0 c.take_behind.new.self.file true lost more.3 (λ t. empty_of more.0 (more.2 ∙ c.in-Ok-eq0.field-0-test));
       closed = λ t. inr (c.in-Ok-eq0.ensures.end c.in-Ok-eq0.field-0-test);
       still = λ t. let wrong : true ≡ false = sym (c.pieces.invariant.searching.later t) ∙ c.if-ended.false in absurd cc;
-      later = grind (arith, c.pieces.invariant.later, c.take_behind.ensures.later, c.leave-in-pieces.ensures.source);
+      quiet = c.in-Ok-eq0.ensures.failed.quiet ∙ ap (λ s. g.S.Source.faults s) c.leave-in-pieces.ensures.source ∙ c.pieces.invariant.quiet;
       marked = c.take_behind.ensures.marked ∙ ap (λ s. g.S.Source.mark s) c.leave-in-pieces.ensures.source ∙ c.pieces.invariant.marked;
     }
 
@@ -63,7 +63,7 @@ pieces-preserved g c =
           (g.S.Source.left c.take_behind.new.self.source) more.0 c.take_behind.new.self.file c.pieces.ended lost more.3 (λ t. let wrong : true ≡ false = sym t ∙ c.if-ended.false in absurd cc);
       closed = λ t. let wrong : true ≡ false = sym t ∙ c.if-ended.false in absurd cc;
       still = λ t. let wrong : true ≡ false = sym (c.pieces.invariant.searching.later t) ∙ c.if-ended.false in absurd cc;
-      later = grind (arith, c.pieces.invariant.later, c.take_behind.ensures.later, c.leave-in-pieces.ensures.source);
+      quiet = c.in-Ok.ensures.failed.quiet ∙ ap (λ s. g.S.Source.faults s) c.leave-in-pieces.ensures.source ∙ c.pieces.invariant.quiet;
       marked = c.take_behind.ensures.marked ∙ ap (λ s. g.S.Source.mark s) c.leave-in-pieces.ensures.source ∙ c.pieces.invariant.marked;
     }
 

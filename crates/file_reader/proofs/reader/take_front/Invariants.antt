@@ -6,7 +6,7 @@ abbrev pub invariant-pieces : goal.invariant-pieces
 invariant-pieces g l = record {
   taken : Consumes (g.S.Source.left l.initial.source) (g.S.Source.left l.source) l.held.bytes;
   size : length l.held.bytes ≤ 4;
-  later : g.S.Source.faults l.initial.source ≤ g.S.Source.faults l.source;
+  quiet : g.S.Source.faults l.source ≡ g.S.Source.faults l.initial.source;
   places : l.initial.held.places ≤ l.held.places;
   marked : g.S.Source.mark l.source ≡ g.S.Source.mark l.initial.source;
 }

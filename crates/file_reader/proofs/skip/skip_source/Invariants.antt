@@ -5,7 +5,8 @@ use Rattle.file_reader.proofs.skip.skip_source.Given as goal
 abbrev pub invariant-loop-size : goal.invariant-loop-size
 invariant-loop-size g l = record {
   skipping : Skipping (g.S.Source.left l.initial.source) (g.S.Source.left l.source) l.fn.taken l.size;
-  later : g.S.Source.faults l.initial.source ≤ g.S.Source.faults l.source;
+  within : l.size - l.fn.taken ≤ l.limit + 1 - l.fn.taken;
+  quiet : g.S.Source.faults l.source ≡ g.S.Source.faults l.initial.source;
   marked : g.S.Source.mark l.source ≡ g.S.Source.mark l.initial.source;
 }
 

@@ -1,4 +1,4 @@
-use Rattle.std.proofs.Common.{◌≡◌, ◌≤◌, ◌-◌}
+use Rattle.std.proofs.Common.{◌≡◌, ◌-◌}
 use Rattle.file_reader.specs.FileInlet.{outlook}
 use Rattle.stream_check.proofs.Checking.{CheckedSo}
 use Rattle.stream_check.proofs.file.check_file.Given as goal
@@ -8,8 +8,8 @@ invariant-chunks g l = record {
   checked : CheckedSo (outlook l.initial.reader.file).coming l.reader.file l.survey (g.S.Source.left l.initial.reader.source) (g.S.Source.left l.reader.source) (g.L.Lines.printed l.initial.lines) (g.L.Lines.printed l.lines) l.chunks l.notes;
   limit : l.reader.file.byte_limit ≡ l.initial.reader.file.byte_limit;
   marked : g.S.Source.mark l.reader.source ≡ g.S.Source.mark l.initial.reader.source;
-  read_later : g.S.Source.faults l.initial.reader.source ≤ g.S.Source.faults l.reader.source;
-  later : g.L.Lines.print_faults l.initial.lines ≤ g.L.Lines.print_faults l.lines;
+  read_quiet : g.S.Source.faults l.reader.source ≡ g.S.Source.faults l.initial.reader.source;
+  quiet : g.L.Lines.print_faults l.lines ≡ g.L.Lines.print_faults l.initial.lines;
   rest : g.L.Lines.rest l.lines ≡ g.L.Lines.rest l.initial.lines;
 }
 

@@ -19,7 +19,7 @@ pub returns-in-Err-say_known-clause-told : goal.returns-in-Err-say_known-clause-
 returns-in-Err-say_known-clause-told g c =
     let xs : List Note = notes_in ((c.args.chunks == 0 && not (is_stopped c.args.end), note 1 None 4) ∷ []) ++ end_notes c.args.end in
     let ys : List Note = if is_stopped c.args.end then [] else kept_notes c.args.ledger c.args.streams.now in
-    second_fails xs ys (sum_lines c.args.chunks (c.args.notes + length (last_notes c.args.ledger c.args.streams.now c.args.chunks c.args.end)) c.args.end) _ _ _ (g.L.Lines.printed c.args.lines.now) _ _ _ 0 c.in-Err-say_known.fault c.in-Ok.ensures.told c.in-Ok.ensures.later c.in-Err-say_known.ensures.told
+    second_fails xs ys (sum_lines c.args.chunks (c.args.notes + length (last_notes c.args.ledger c.args.streams.now c.args.chunks c.args.end)) c.args.end) _ _ _ (g.L.Lines.printed c.args.lines.now) _ _ _ 0 c.in-Err-say_known.fault c.in-Ok.ensures.told c.in-Ok.ensures.cause.later c.in-Err-say_known.ensures.told
 
 pub returns-in-Ok-say_sum-clause-told : goal.returns-in-Ok-say_sum-clause-told
 returns-in-Ok-say_sum-clause-told g c =
@@ -35,4 +35,4 @@ returns-in-Err-say_sum-clause-told g c =
     let ys : List Note = if is_stopped c.args.end then [] else kept_notes c.args.ledger c.args.streams.now in
     let count : c.args.notes + c.in-Ok.n + c.in-Ok-say_known.n ≡ c.args.notes + length (xs ++ ys) = omega (arith, c.in-Ok.ensures.count, c.in-Ok-say_known.ensures.count, length-append xs ys) in
     let P : ℕ → Type 0 = λ n. Fails c.in-Err-say_sum.fault (g.L.Lines.printed c.say_known.new.lines) (g.L.Lines.printed c.say_sum.new.lines) (g.L.Lines.print_faults c.say_known.new.lines) (g.L.Lines.print_faults c.say_sum.new.lines) (sum_lines c.args.chunks n c.args.end) in
-    third_fails xs ys (sum_lines c.args.chunks (c.args.notes + length (xs ++ ys)) c.args.end) _ _ _ _ _ _ _ _ c.in-Err-say_sum.fault c.in-Ok.ensures.told c.in-Ok.ensures.later c.in-Ok-say_known.ensures.told c.in-Ok-say_known.ensures.later (subst P count c.in-Err-say_sum.ensures.told)
+    third_fails xs ys (sum_lines c.args.chunks (c.args.notes + length (xs ++ ys)) c.args.end) _ _ _ _ _ _ _ _ c.in-Err-say_sum.fault c.in-Ok.ensures.told c.in-Ok.ensures.cause.later c.in-Ok-say_known.ensures.told c.in-Ok-say_known.ensures.cause.later (subst P count c.in-Err-say_sum.ensures.told)

@@ -10,6 +10,6 @@ invariant-loop-kept g l = record {
   said : Appends (g.L.Lines.printed l.initial.lines) (g.L.Lines.printed l.lines) (printed_lines (map note_line (kept_notes l.ledger (take l.kept-index l.streams))));
   counted : l.count ≡ length (kept_notes l.ledger (take l.kept-index l.streams));
   few : l.count ≤ 2 * l.kept-index;
-  later : g.L.Lines.print_faults l.initial.lines ≤ g.L.Lines.print_faults l.lines;
+  quiet : g.L.Lines.print_faults l.lines ≡ g.L.Lines.print_faults l.initial.lines;
   rest : g.L.Lines.rest l.lines ≡ g.L.Lines.rest l.initial.lines;
 }

@@ -10,6 +10,6 @@ invariant-loop-row g l = record {
   said : Appends (g.L.Lines.printed l.initial.lines) (g.L.Lines.printed l.lines) (printed_lines (map note_line (notes_in (take l.row-index l.table))));
   counted : l.count ≡ length (notes_in (take l.row-index l.table));
   few : l.count ≤ l.row-index;
-  later : g.L.Lines.print_faults l.initial.lines ≤ g.L.Lines.print_faults l.lines;
+  quiet : g.L.Lines.print_faults l.lines ≡ g.L.Lines.print_faults l.initial.lines;
   rest : g.L.Lines.rest l.lines ≡ g.L.Lines.rest l.initial.lines;
 }

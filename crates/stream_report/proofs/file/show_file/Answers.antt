@@ -1,6 +1,7 @@
-use Rattle.std.proofs.Common.{refl, sym, ap, ◌∙◌, subst, inl, inr, arith, ℕ, List, [], ◌∷◌, ◌++◌, take, Err}
+use Rattle.std.proofs.Common.{refl, sym, ap, ◌∙◌, subst, inl, inr, ℕ, List, [], ◌∷◌, ◌++◌, take, Err}
+use Rattle.std.proofs.Math.Nat.{le_of_eq}
 use Rattle.std.specs.Io.KnownBytes.{Appends}
-use Rattle.std.proofs.KnownBytes.{Appends-trans}
+use Rattle.std.proofs.KnownBytes.{Appends-nil, Appends-trans}
 use Rattle.file_model.specs.declared.end.FileEnd.TheVariants as end
 use Rattle.file_reader.specs.FileInlet.{outlook}
 use Rattle.chunk_grammar.specs.Chunk.{Context}
@@ -9,7 +10,7 @@ use Rattle.report_model.specs.Shown.{lines_of_chunks, printed_lines, AreFirstLin
 use Rattle.rec_base.specs.Known.{AppendsFront}
 use Rattle.stream_report.proofs.Said.{rose_later}
 use Rattle.stream_report.proofs.Showing.{begun_more, shown_more, front_more, all_lines, first_lines, fewer_lines, printed_both}
-use Rattle.stream_report.proofs.ShownEnds.{read_so, all_said, front_said, chunks_said}
+use Rattle.stream_report.proofs.ShownEnds.{blamed_end, read_so, all_said, front_said, chunks_said}
 use Rattle.stream_report.proofs.file.show_file.Goals as goal
 
 pub chunks-preserved : goal.chunks-preserved
@@ -20,8 +21,8 @@ chunks-preserved g c =
       shown = shown_more _ c.chunks.reader.file c.next.new.self.file _ _ _ _ _ c.chunks.count c.in-Chunk.at c.in-Chunk.chunk i.shown c.in-Chunk.ensures.chunk c.in-Chunk.ensures.answer _ (subst P c.context.ensures c.in-Ok.ensures.said);
       limit = c.in-Chunk.ensures.limit ∙ i.limit;
       marked = c.in-Chunk.ensures.marked ∙ i.marked;
-      read_later = omega (arith, c.in-Chunk.ensures.later, i.read_later);
-      later = omega (arith, c.in-Ok.ensures.later, i.later);
+      read_quiet = c.in-Chunk.ensures.cause.quiet (λ h. absurd (cc h.1)) ∙ i.read_quiet;
+      quiet = c.in-Ok.ensures.cause.quiet (λ h. absurd (cc h)) ∙ i.quiet;
       rest = c.in-Ok.ensures.rest ∙ i.rest;
     }
 
@@ -31,7 +32,7 @@ returns-in-Err-Print-clause-print g c = λ _.
     let p = c.in-Err-Print.ensures.print (ap Err c.in-Err-Print.field-0-is) in
     let P : Context → Type 0 = λ x. AppendsFront (g.L.Lines.printed c.chunks.lines) (g.L.Lines.printed c.say_given.new.lines) (printed_lines (chunk_lines x c.in-Chunk.at c.in-Chunk.chunk)) in
     let k = begun_more _ c.chunks.reader.file c.next.new.self.file _ _ _ _ _ c.chunks.count c.in-Chunk.at c.in-Chunk.chunk i.shown c.in-Chunk.ensures.chunk c.in-Chunk.ensures.answer in (
-      rose_later _ _ _ i.later p.1,
+      rose_later _ _ _ (le_of_eq (sym i.quiet)) p.1,
       inl (
         k.taken,
         lines_of_chunks [] (i.shown.items ++ (c.in-Chunk.at, c.in-Chunk.chunk) ∷ []),
@@ -68,7 +69,7 @@ returns-in-End-clause-shown g c = λ is.
       i.shown.items,
       e,
       s.0,
-      read_so _ _ _ _ _ _ _ c.chunks.reader.file c.next.new.self.file i.shown.items e i.shown.begun c.in-End.ensures.answer i.marked c.in-End.ensures.marked i.read_later c.in-End.ensures.later (λ q. absurd (cc q)),
+      read_so _ _ _ _ _ _ _ c.chunks.reader.file c.next.new.self.file i.shown.items e i.shown.begun c.in-End.ensures.answer i.marked c.in-End.ensures.marked i.read_quiet (blamed_end e _ _ (λ q. absurd (cc q)) (λ h. absurd (cc h.1)) c.in-End.ensures.cause),
       all_said _ c.chunks.reader.file _ _ _ _ c.chunks.count i.shown e _ s.1,
     )
 
@@ -77,11 +78,11 @@ returns-in-End-clause-print g c = λ is.
     let i = c.chunks.invariant in
     let e = end.End c.in-End.at in
     let p = c.finish.ensures.print is in (
-      rose_later _ _ _ i.later p.1,
+      rose_later _ _ _ (le_of_eq (sym i.quiet)) p.1,
       inr (
         i.shown.items,
         e,
-        read_so _ _ _ _ _ _ _ c.chunks.reader.file c.next.new.self.file i.shown.items e i.shown.begun c.in-End.ensures.answer i.marked c.in-End.ensures.marked i.read_later c.in-End.ensures.later (λ q. absurd (cc q)),
+        read_so _ _ _ _ _ _ _ c.chunks.reader.file c.next.new.self.file i.shown.items e i.shown.begun c.in-End.ensures.answer i.marked c.in-End.ensures.marked i.read_quiet (blamed_end e _ _ (λ q. absurd (cc q)) (λ h. absurd (cc h.1)) c.in-End.ensures.cause),
         front_said _ c.chunks.reader.file _ _ _ _ c.chunks.count i.shown e _ p.0,
       ),
     )
@@ -98,7 +99,7 @@ returns-in-Torn-clause-shown g c = λ is.
       i.shown.items,
       e,
       s.0,
-      read_so _ _ _ _ _ _ _ c.chunks.reader.file c.next.new.self.file i.shown.items e i.shown.begun c.in-Torn.ensures.answer i.marked c.in-Torn.ensures.marked i.read_later c.in-Torn.ensures.later (λ q. absurd (cc q)),
+      read_so _ _ _ _ _ _ _ c.chunks.reader.file c.next.new.self.file i.shown.items e i.shown.begun c.in-Torn.ensures.answer i.marked c.in-Torn.ensures.marked i.read_quiet (blamed_end e _ _ (λ q. absurd (cc q)) (λ h. absurd (cc h.1)) c.in-Torn.ensures.cause),
       all_said _ c.chunks.reader.file _ _ _ _ c.chunks.count i.shown e _ s.1,
     )
 
@@ -107,11 +108,11 @@ returns-in-Torn-clause-print g c = λ is.
     let i = c.chunks.invariant in
     let e = end.Torn c.in-Torn.at c.in-Torn.left in
     let p = c.finish-in-Torn.ensures.print is in (
-      rose_later _ _ _ i.later p.1,
+      rose_later _ _ _ (le_of_eq (sym i.quiet)) p.1,
       inr (
         i.shown.items,
         e,
-        read_so _ _ _ _ _ _ _ c.chunks.reader.file c.next.new.self.file i.shown.items e i.shown.begun c.in-Torn.ensures.answer i.marked c.in-Torn.ensures.marked i.read_later c.in-Torn.ensures.later (λ q. absurd (cc q)),
+        read_so _ _ _ _ _ _ _ c.chunks.reader.file c.next.new.self.file i.shown.items e i.shown.begun c.in-Torn.ensures.answer i.marked c.in-Torn.ensures.marked i.read_quiet (blamed_end e _ _ (λ q. absurd (cc q)) (λ h. absurd (cc h.1)) c.in-Torn.ensures.cause),
         front_said _ c.chunks.reader.file _ _ _ _ c.chunks.count i.shown e _ p.0,
       ),
     )
@@ -128,7 +129,7 @@ returns-in-Bad-clause-shown g c = λ is.
       i.shown.items,
       e,
       s.0,
-      read_so _ _ _ _ _ _ _ c.chunks.reader.file c.next.new.self.file i.shown.items e i.shown.begun c.in-Bad.ensures.answer i.marked c.in-Bad.ensures.marked i.read_later c.in-Bad.ensures.later (λ q. absurd (cc q)),
+      read_so _ _ _ _ _ _ _ c.chunks.reader.file c.next.new.self.file i.shown.items e i.shown.begun c.in-Bad.ensures.answer i.marked c.in-Bad.ensures.marked i.read_quiet (blamed_end e _ _ (λ q. absurd (cc q)) (λ h. absurd (cc h.1)) c.in-Bad.ensures.cause),
       all_said _ c.chunks.reader.file _ _ _ _ c.chunks.count i.shown e _ s.1,
     )
 
@@ -137,11 +138,11 @@ returns-in-Bad-clause-print g c = λ is.
     let i = c.chunks.invariant in
     let e = end.Bad c.in-Bad.at c.in-Bad.why in
     let p = c.finish-in-Bad.ensures.print is in (
-      rose_later _ _ _ i.later p.1,
+      rose_later _ _ _ (le_of_eq (sym i.quiet)) p.1,
       inr (
         i.shown.items,
         e,
-        read_so _ _ _ _ _ _ _ c.chunks.reader.file c.next.new.self.file i.shown.items e i.shown.begun c.in-Bad.ensures.answer i.marked c.in-Bad.ensures.marked i.read_later c.in-Bad.ensures.later (λ q. absurd (cc q)),
+        read_so _ _ _ _ _ _ _ c.chunks.reader.file c.next.new.self.file i.shown.items e i.shown.begun c.in-Bad.ensures.answer i.marked c.in-Bad.ensures.marked i.read_quiet (blamed_end e _ _ (λ q. absurd (cc q)) (λ h. absurd (cc h.1)) c.in-Bad.ensures.cause),
         front_said _ c.chunks.reader.file _ _ _ _ c.chunks.count i.shown e _ p.0,
       ),
     )
@@ -151,64 +152,26 @@ returns-in-Bad-clause-memory g c = λ is.
     chunks_said _ c.chunks.reader.file _ _ _ _ c.chunks.count c.chunks.invariant.shown c.next.new.self.file _ _ c.in-Bad.ensures.answer (c.finish-in-Bad.ensures.memory is)
 
 pub returns-in-ReadFault-clause-shown : goal.returns-in-ReadFault-clause-shown
-returns-in-ReadFault-clause-shown g c = λ is.
+returns-in-ReadFault-clause-shown g c = λ _.
     let i = c.chunks.invariant in
-    let e = end.ReadFault in
-    let s = c.finish-in-ReadFault.ensures.said is in (
+    let e = end.ReadFault in (
       i.shown.items,
       e,
-      s.0,
-      read_so _ _ _ _ _ _ _ c.chunks.reader.file c.next.new.self.file i.shown.items e i.shown.begun c.in-ReadFault.ensures.answer i.marked c.in-ReadFault.ensures.marked i.read_later c.in-ReadFault.ensures.later (λ _. c.in-ReadFault.ensures.cause i.shown.begun.goes refl),
-      all_said _ c.chunks.reader.file _ _ _ _ c.chunks.count i.shown e _ s.1,
+      refl,
+      read_so _ _ _ _ _ _ _ c.chunks.reader.file c.next.new.self.file i.shown.items e i.shown.begun c.in-ReadFault.ensures.answer i.marked c.in-ReadFault.ensures.marked i.read_quiet (blamed_end e _ _ (λ _. (i.shown.begun.goes, refl)) (λ _. refl) c.in-ReadFault.ensures.cause),
+      all_said _ c.chunks.reader.file _ _ _ _ c.chunks.count i.shown e _ (Appends-nil _),
     )
-
-pub returns-in-ReadFault-clause-print : goal.returns-in-ReadFault-clause-print
-returns-in-ReadFault-clause-print g c = λ is.
-    let i = c.chunks.invariant in
-    let e = end.ReadFault in
-    let p = c.finish-in-ReadFault.ensures.print is in (
-      rose_later _ _ _ i.later p.1,
-      inr (
-        i.shown.items,
-        e,
-        read_so _ _ _ _ _ _ _ c.chunks.reader.file c.next.new.self.file i.shown.items e i.shown.begun c.in-ReadFault.ensures.answer i.marked c.in-ReadFault.ensures.marked i.read_later c.in-ReadFault.ensures.later (λ _. c.in-ReadFault.ensures.cause i.shown.begun.goes refl),
-        front_said _ c.chunks.reader.file _ _ _ _ c.chunks.count i.shown e _ p.0,
-      ),
-    )
-
-pub returns-in-ReadFault-clause-memory : goal.returns-in-ReadFault-clause-memory
-returns-in-ReadFault-clause-memory g c = λ is.
-    chunks_said _ c.chunks.reader.file _ _ _ _ c.chunks.count c.chunks.invariant.shown c.next.new.self.file _ _ c.in-ReadFault.ensures.answer (c.finish-in-ReadFault.ensures.memory is)
 
 pub returns-in-SizeLimit-clause-shown : goal.returns-in-SizeLimit-clause-shown
-returns-in-SizeLimit-clause-shown g c = λ is.
+returns-in-SizeLimit-clause-shown g c = λ _.
     let i = c.chunks.invariant in
-    let e = end.SizeLimit in
-    let s = c.finish-in-SizeLimit.ensures.said is in (
+    let e = end.SizeLimit in (
       i.shown.items,
       e,
-      s.0,
-      read_so _ _ _ _ _ _ _ c.chunks.reader.file c.next.new.self.file i.shown.items e i.shown.begun c.in-SizeLimit.ensures.answer i.marked c.in-SizeLimit.ensures.marked i.read_later c.in-SizeLimit.ensures.later (λ q. absurd (cc q)),
-      all_said _ c.chunks.reader.file _ _ _ _ c.chunks.count i.shown e _ s.1,
+      refl,
+      read_so _ _ _ _ _ _ _ c.chunks.reader.file c.next.new.self.file i.shown.items e i.shown.begun c.in-SizeLimit.ensures.answer i.marked c.in-SizeLimit.ensures.marked i.read_quiet (blamed_end e _ _ (λ q. absurd (cc q)) (λ h. absurd (cc h.1)) c.in-SizeLimit.ensures.cause),
+      all_said _ c.chunks.reader.file _ _ _ _ c.chunks.count i.shown e _ (Appends-nil _),
     )
-
-pub returns-in-SizeLimit-clause-print : goal.returns-in-SizeLimit-clause-print
-returns-in-SizeLimit-clause-print g c = λ is.
-    let i = c.chunks.invariant in
-    let e = end.SizeLimit in
-    let p = c.finish-in-SizeLimit.ensures.print is in (
-      rose_later _ _ _ i.later p.1,
-      inr (
-        i.shown.items,
-        e,
-        read_so _ _ _ _ _ _ _ c.chunks.reader.file c.next.new.self.file i.shown.items e i.shown.begun c.in-SizeLimit.ensures.answer i.marked c.in-SizeLimit.ensures.marked i.read_later c.in-SizeLimit.ensures.later (λ q. absurd (cc q)),
-        front_said _ c.chunks.reader.file _ _ _ _ c.chunks.count i.shown e _ p.0,
-      ),
-    )
-
-pub returns-in-SizeLimit-clause-memory : goal.returns-in-SizeLimit-clause-memory
-returns-in-SizeLimit-clause-memory g c = λ is.
-    chunks_said _ c.chunks.reader.file _ _ _ _ c.chunks.count c.chunks.invariant.shown c.next.new.self.file _ _ c.in-SizeLimit.ensures.answer (c.finish-in-SizeLimit.ensures.memory is)
 
 pub returns-in-Memory-clause-memory : goal.returns-in-Memory-clause-memory
 returns-in-Memory-clause-memory g c = λ _.

@@ -22,7 +22,7 @@ returns-clause-print g c = λ is.
     let P : List ℕ → Type 0 = λ t. Appends (g.L.Lines.printed c.args.lines.now) (g.L.Lines.printed c.say_line.new.lines) (printed_line t) in
     let first = subst P (c.as_str.ensures.value ∙ c.in_ok-line.ensures) c.in_ok-say_line.ensures.said in
     let front = c.say_later.ensures.print is in
-    (front_both c.args.ctx.now c.args.at c.args.chunk.now _ _ _ first front.0, rose_later _ _ _ c.in_ok-say_line.ensures.later front.1)
+    (front_both c.args.ctx.now c.args.at c.args.chunk.now _ _ _ first front.0, rose_later _ _ _ c.in_ok-say_line.ensures.cause.later front.1)
 
 pub returns-clause-memory : goal.returns-clause-memory
 returns-clause-memory g c = λ is.

@@ -1,5 +1,5 @@
 use Rattle.std.proofs.Common.{arith, refl, ◌∙◌}
-use Rattle.xdf_repair.proofs.Copies.{copied_all, cut_chunk, cut_waiting, front_failed, gathered_end, gathered_magic, gathered_more, gathered_stop, goes_more, none_stands, stop_so, went_well}
+use Rattle.xdf_repair.proofs.Copies.{copied_all, cut_chunk, cut_waiting, front_failed, gathered_end, gathered_magic, gathered_more, gathered_stop, goes_more, no_fault, none_stands, stop_so, went_well}
 use Rattle.xdf_repair.proofs.copied.copy_chunks.Goals as goal
 
 pub chunks-init : goal.chunks-init
@@ -10,8 +10,8 @@ chunks-init g c =
       goes = c.requires.fresh.0;
       limit = refl;
       skipped = c.requires.fresh.4;
-      read_later = omega arith;
-      write_later = omega arith;
+      read_quiet = refl;
+      write_quiet = refl;
       marked = refl;
       rest = refl;
     }
@@ -34,8 +34,8 @@ chunks-preserved g c =
       goes = goes_more now new _ _ _ turn c.pass.ensures.answer;
       limit = c.pass.ensures.limit ∙ i.limit;
       skipped = c.pass.ensures.skipped ∙ i.skipped;
-      read_later = omega (arith, c.pass.ensures.later, i.read_later);
-      write_later = omega (arith, c.gather.ensures.cause.later, i.write_later);
+      read_quiet = c.pass.ensures.cause.quiet (λ h. no_fault now.context new.last _ _ turn (λ e. absurd cc) h.1) ∙ i.read_quiet;
+      write_quiet = c.in-Ok.ensures.cause.quiet ∙ i.write_quiet;
       marked = c.pass.ensures.marked ∙ i.marked;
       rest = c.gather.ensures.rest ∙ i.rest;
     }

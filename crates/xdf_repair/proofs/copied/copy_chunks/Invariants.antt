@@ -10,8 +10,8 @@ invariant-chunks g l = record {
   goes : (outlook l.reader.file).is_over ≡ false;
   limit : l.reader.file.byte_limit ≡ l.fn.reader.file.byte_limit;
   skipped : l.reader.skipped ≡ None;
-  read_later : g.S.Source.faults l.fn.reader.source ≤ g.S.Source.faults l.reader.source;
-  write_later : g.K.Sink.write_faults l.fn.sink ≤ g.K.Sink.write_faults l.sink;
+  read_quiet : g.S.Source.faults l.reader.source ≡ g.S.Source.faults l.fn.reader.source;
+  write_quiet : g.K.Sink.write_faults l.sink ≡ g.K.Sink.write_faults l.fn.sink;
   marked : g.S.Source.mark l.reader.source ≡ g.S.Source.mark l.fn.reader.source;
   rest : g.K.Sink.rest l.sink ≡ g.K.Sink.rest l.fn.sink;
 }

@@ -12,8 +12,8 @@ parts-init g c = record {
   within = omega (arith, c.put_behind-waiting.ensures.count, c.put_behind-waiting.ensures.size);
   goes = c.requires.fresh.5;
   limit = refl;
-  read_later = omega arith;
-  write_later = omega arith;
+  read_quiet = refl;
+  write_quiet = refl;
   marked = refl;
   rest = refl;
 }
@@ -38,8 +38,8 @@ parts-preserved-in-Chunk g c =
       within = c.in-Ok.ensures.within;
       goes = h.goes_on;
       limit = h.goes.limit ∙ i.limit;
-      read_later = omega (arith, c.pass.ensures.later, i.read_later);
-      write_later = omega (arith, c.gather.ensures.cause.later, i.write_later);
+      read_quiet = c.in-Chunk.ensures.cause.quiet (λ h. absurd (cc h.1)) ∙ i.read_quiet;
+      write_quiet = c.in-Ok.ensures.cause.quiet ∙ i.write_quiet;
       marked = c.pass.ensures.marked ∙ i.marked;
       rest = c.gather.ensures.rest ∙ i.rest;
     }
@@ -55,8 +55,8 @@ parts-preserved g c =
       within = i.within;
       goes = h.goes_on;
       limit = h.past.goes.limit ∙ i.limit;
-      read_later = omega (arith, c.pass.ensures.later, i.read_later);
-      write_later = i.write_later;
+      read_quiet = c.in-Skipped.ensures.cause.quiet (λ h. absurd (cc h.1)) ∙ i.read_quiet;
+      write_quiet = i.write_quiet;
       marked = c.pass.ensures.marked ∙ i.marked;
       rest = i.rest;
     }

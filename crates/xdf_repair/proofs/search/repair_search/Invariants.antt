@@ -8,8 +8,8 @@ invariant-parts g l = record {
   within : l.waiting ≤ length l.room;
   goes : l.salvager.end ≡ None;
   limit : l.salvager.file.byte_limit ≡ l.fn.salvager.file.byte_limit;
-  read_later : g.S.Source.faults l.fn.salvager.source ≤ g.S.Source.faults l.salvager.source;
-  write_later : g.K.Sink.write_faults l.fn.sink ≤ g.K.Sink.write_faults l.sink;
+  read_quiet : g.S.Source.faults l.salvager.source ≡ g.S.Source.faults l.fn.salvager.source;
+  write_quiet : g.K.Sink.write_faults l.sink ≡ g.K.Sink.write_faults l.fn.sink;
   marked : g.S.Source.mark l.salvager.source ≡ g.S.Source.mark l.fn.salvager.source;
   rest : g.K.Sink.rest l.sink ≡ g.K.Sink.rest l.fn.sink;
 }

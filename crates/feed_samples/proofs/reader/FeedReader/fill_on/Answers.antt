@@ -50,7 +50,7 @@ pieces-preserved-in-Quiet-Again g c =
       bounded = c.in-Quiet-Again.ensures.received;
       shape = goes.shape ∙ c.pieces.invariant.shape;
       limit = goes.limit ∙ c.pieces.invariant.limit;
-      later = c.pieces.invariant.later;
+      quiet = c.pieces.invariant.quiet;
       length = c.in-Quiet-Again.ensures.length ∙ c.pieces.invariant.length;
       marked = c.pieces.invariant.marked;
     }
@@ -76,15 +76,21 @@ returns-in-Ok-eq0-clause-answer g c =
     )
 
 pub returns-in-Ok-eq0-clause-cause : goal.returns-in-Ok-eq0-clause-cause
-returns-in-Ok-eq0-clause-cause g c = λ is.
+returns-in-Ok-eq0-clause-cause g c =
     let gains = c.in-Ok-eq0.ensures.gains in
     let mid = c.step_block.new.self in
     let new = c.take_piece.new.self in
     let want : Does c.pieces.self.inlet c.step_block.new.self Want = rw c.in-Quiet-Want.field-0-is at c.in-Quiet-Want.ensures.does in
     let wants = want_wants c.pieces.self.inlet mid want.0 want.1 in
     let still = want_wants mid new wants (piece_none mid new gains.0 (search rules) gains.3) in
-    let same : end_of (rules_of new) new.reading ended ≡ ReadFault = cc (is, c.end_input.ensures.value) in
-    absurd (no_fault new new.reading still same)
+    let kept = c.in-Ok-eq0.ensures.failed.quiet (λ e. absurd (cc e)) ∙ c.pieces.invariant.quiet in
+    record {
+      later = omega (arith, kept);
+      rose = λ is.
+          let same : end_of (rules_of new) new.reading ended ≡ ReadFault = cc (is, c.end_input.ensures.value) in
+          absurd (no_fault new new.reading still same);
+      quiet = λ _. kept;
+    }
 
 pub pieces-preserved : goal.pieces-preserved
 pieces-preserved g c =
@@ -103,7 +109,7 @@ pieces-preserved g c =
       bounded = omega (arith, goes.received, goes.limit, c.in-Quiet-Want.ensures.received);
       shape = goes.shape ∙ ap (λ (x : InletState). x.shape) same ∙ c.pieces.invariant.shape;
       limit = goes.limit ∙ ap (λ (x : InletState). x.byte_limit) same ∙ c.pieces.invariant.limit;
-      later = omega arith;
+      quiet = search rules;
       length = c.in-Quiet-Want.ensures.length ∙ c.pieces.invariant.length;
       marked = search rules;
     }

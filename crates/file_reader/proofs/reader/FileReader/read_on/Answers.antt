@@ -1,4 +1,4 @@
-use Rattle.std.proofs.Common.{arith, rules, ap, subst, sym, ◌∙◌}
+use Rattle.std.proofs.Common.{rules, ap, subst, sym, ◌∙◌}
 use Rattle.file_model.specs.declared.next.Next.{Next}
 use Rattle.piece_reader.proofs.Carrying.{carried_kept}
 use Rattle.file_reader.specs.FileInlet.{Stops, Tells}
@@ -67,7 +67,7 @@ pieces-preserved g c =
       took = took_more _ _ _ start.ahead gains.0 c.pieces.self.file mid new c.pieces.invariant.took same gains.1 gains.3;
       skipped = search rules;
       same = same_more start mid new _ (same_here start c.pieces.self.file mid c.pieces.invariant.same same) gains.3;
-      later = omega arith;
+      quiet = search rules;
       marked = search rules;
     }
 

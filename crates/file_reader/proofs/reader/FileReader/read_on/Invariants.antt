@@ -1,4 +1,4 @@
-use Rattle.std.proofs.Common.{◌≡◌, ◌≤◌}
+use Rattle.std.proofs.Common.{◌≡◌}
 use Rattle.piece_reader.specs.Steps.{Carried, work}
 use Rattle.file_reader.specs.FileInlet.{outlook}
 use Rattle.file_reader.specs.Kept.{IsGoing}
@@ -13,7 +13,7 @@ invariant-pieces g l = record {
   took : Took (g.S.Source.left l.initial.self.source) (g.S.Source.left l.self.source) l.initial.self.file.ahead l.self.file.ahead;
   skipped : l.self.skipped ≡ l.initial.self.skipped;
   same : Same l.initial.self.file l.self.file;
-  later : g.S.Source.faults l.initial.self.source ≤ g.S.Source.faults l.self.source;
+  quiet : g.S.Source.faults l.self.source ≡ g.S.Source.faults l.initial.self.source;
   marked : g.S.Source.mark l.self.source ≡ g.S.Source.mark l.initial.self.source;
 }
 
