@@ -1,7 +1,7 @@
 //! Both ends of a lane of numbers.
 
 ghost use Rattle.std.specs.Prelude.{◌≡◌, ◌≤◌, ◌<◌, ℕ, List, false, length, map, slice_get, None, Some, Option, IfOk, IfErr, OnErr};
-ghost use Rattle.rec_base.specs.Causes.{Rose};
+ghost use Rattle.rec_base.specs.Causes.{HasCause};
 ghost use Rattle.ring_model.specs.Ring.{IsReached};
 ghost use Rattle.recording_model.specs.declared.stream.StreamDoc.{StreamDoc as StreamValue};
 ghost use Rattle.recording_model.specs.Batch.{Batch};
@@ -99,8 +99,7 @@ impl BlockLast {
             → StandsFor streams base (K.held writer.old.sink.now) writer.old.room.desk batches current
             → OnErr result ((some : List Batch) × IsCut streams base (K.held writer.new.sink.now) some × IsCutAt place self.old.state.taken self.new.state.taken (closed batches current) some) }
         ensures fault { IfErr result (λ f. f ≡ WriterFault.WriteFault) }
-        ensures cause { OnErr result (Rose (K.write_faults writer.old.sink.now) (K.write_faults writer.new.sink.now)) }
-        ensures later { K.write_faults writer.old.sink.now ≤ K.write_faults writer.new.sink.now }
+        ensures cause { HasCause (K.write_faults writer.old.sink.now) (K.write_faults writer.new.sink.now) result }
         ensures rest { K.rest writer.new.sink.now ≡ K.rest writer.old.sink.now }
     {
         let Some(entry) = self.last.take(rt) else {

@@ -1,7 +1,7 @@
 //! Both ends of a lane, once its feed has ended.
 
 ghost use Rattle.std.specs.Prelude.{◌≡◌, ◌≤◌, ◌<◌, ℕ, List, false, length, map, slice_get, None, Some, Option, IfOk, OnErr, IsErrOf};
-ghost use Rattle.rec_base.specs.Causes.{Rose};
+ghost use Rattle.rec_base.specs.Causes.{Blames};
 ghost use Rattle.xdf_model.specs.Sample.{size_of};
 ghost use Rattle.ring_model.specs.Ring.{IsReached};
 ghost use Rattle.recording_model.specs.declared.stream.StreamDoc.{StreamDoc as StreamValue};
@@ -94,8 +94,7 @@ impl LaneLast {
             → StandsFor streams base (K.held writer.old.sink.now) writer.old.room.desk batches current
             → OnErr result ((some : List Batch) × IsCut streams base (K.held writer.new.sink.now) some × IsCutAt place self.old.state.taken self.new.state.taken (closed batches current) some) }
         ensures memory { IsErrOf result WriterFault.Memory → 1 ≤ size_of self.old.shape.format → ⊥ }
-        ensures cause { IsErrOf result WriterFault.WriteFault → Rose (K.write_faults writer.old.sink.now) (K.write_faults writer.new.sink.now) }
-        ensures later { K.write_faults writer.old.sink.now ≤ K.write_faults writer.new.sink.now }
+        ensures cause { Blames (IsErrOf result WriterFault.WriteFault) (K.write_faults writer.old.sink.now) (K.write_faults writer.new.sink.now) }
         ensures rest { K.rest writer.new.sink.now ≡ K.rest writer.old.sink.now }
     {
         match &mut self.ends {

@@ -1,7 +1,7 @@
 //! Both ends of a lane of texts.
 
 ghost use Rattle.std.specs.Prelude.{◌≡◌, ◌≤◌, ◌<◌, ℕ, List, false, length, map, slice_get, None, Some, Option, IfOk, OnErr, IsErrOf};
-ghost use Rattle.rec_base.specs.Causes.{Rose};
+ghost use Rattle.rec_base.specs.Causes.{Blames};
 ghost use Rattle.ring_model.specs.Ring.{IsReached};
 ghost use Rattle.recording_model.specs.declared.stream.StreamDoc.{StreamDoc as StreamValue};
 ghost use Rattle.recording_model.specs.Batch.{Batch};
@@ -79,8 +79,7 @@ impl TextLast {
         ensures cut { (streams : List StreamValue) (base : Option (List ℕ)) (batches : List Batch) (current : Option Batch)
             → StandsFor streams base (K.held writer.old.sink.now) writer.old.room.desk batches current
             → OnErr result ((some : List Batch) × IsCut streams base (K.held writer.new.sink.now) some × IsCutAt place self.old.state.taken self.new.state.taken (closed batches current) some) }
-        ensures cause { IsErrOf result WriterFault.WriteFault → Rose (K.write_faults writer.old.sink.now) (K.write_faults writer.new.sink.now) }
-        ensures later { K.write_faults writer.old.sink.now ≤ K.write_faults writer.new.sink.now }
+        ensures cause { Blames (IsErrOf result WriterFault.WriteFault) (K.write_faults writer.old.sink.now) (K.write_faults writer.new.sink.now) }
         ensures rest { K.rest writer.new.sink.now ≡ K.rest writer.old.sink.now }
     {
         let Some(entry) = self.last.take(rt) else {

@@ -1,7 +1,7 @@
 //! The end of a lane of texts that puts.
 
 ghost use Rattle.std.specs.Prelude.{◌≡◌, ◌≤◌, ◌<◌, ◌^◌, false, length};
-ghost use Rattle.rec_base.specs.Causes.{Rose};
+ghost use Rattle.rec_base.specs.Causes.{Blames};
 ghost use Rattle.reading_model.specs.Outlook.{Answered};
 ghost use Rattle.inlet_model.specs.Inlet.{feed_kind};
 ghost use Rattle.feed_samples.specs.declared.step.FeedStep.{FeedStep as StepValue};
@@ -52,8 +52,7 @@ impl TextTail {
             × FitsGiven reader.old.inlet.shape step × (reader.new.inlet.received ≡ received_by step reader.old.inlet.received) }
         ensures bounded { reader.new.inlet.received ≤ reader.new.inlet.byte_limit }
         ensures same_shape { (reader.new.inlet.shape ≡ reader.old.inlet.shape) × (reader.new.inlet.byte_limit ≡ reader.old.inlet.byte_limit) }
-        ensures cause { (outlook reader.old.inlet).is_over ≡ false → result ≡ LaneStep.End FeedEnd.ReadFault → Rose (S.faults reader.old.source) (S.faults reader.new.source) }
-        ensures later { S.faults reader.old.source ≤ S.faults reader.new.source }
+        ensures cause { Blames (((outlook reader.old.inlet).is_over ≡ false) × (result ≡ LaneStep.End FeedEnd.ReadFault)) (S.faults reader.old.source) (S.faults reader.new.source) }
         ensures marked { S.mark reader.new.source ≡ S.mark reader.old.source }
     {
         match reader.next() {

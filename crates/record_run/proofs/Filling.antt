@@ -3,7 +3,7 @@ use Rattle.std.proofs.Common.{◌≡◌, ◌≢◌, ℕ, zero, suc, ◌+◌, ◌
 use Rattle.std.proofs.lemmas.Bool.{eqb-true, eqb-false}
 use Rattle.std.proofs.lemmas.List.{map-append, drop-map, length-map, append-nil}
 use Rattle.std.specs.List.{AllByRecursion}
-use Rattle.rec_base.specs.Causes.{Rose}
+use Rattle.rec_base.specs.Causes.{Blames}
 use Rattle.reading_model.specs.Outlook.{item, end, Answered}
 use Rattle.reading_model.specs.Read.{Reader}
 use Rattle.piece_reader.specs.Steps.{Begun}
@@ -143,7 +143,7 @@ pub record Filling {S M : Type 0} (left_of : S → Option (List ℕ)) (faults_of
   pub count : length more ≡ n
   pub start : x.end ≡ None
   pub marked : mark_of now.source ≡ mark_of x.source
-  pub later : faults_of x.source ≤ faults_of now.source
+  pub quiet : faults_of now.source ≡ faults_of x.source
   pub given : (reader : Reader Sample FeedEnd) (first : S) (given : List Sample)
       → Begun (fresh reader) (outlook x.inlet) (left_of first) (left_of x.source) given → Begun (fresh reader) (outlook now.inlet) (left_of first) (left_of now.source) (given ++ more)
   pub id : now.id ≡ x.id
@@ -161,7 +161,7 @@ filling_none left_of faults_of mark_of x start empty = record {
   count = refl;
   start = start;
   marked = refl;
-  later = omega arith;
+  quiet = refl;
   given = λ reader first given b. subst (λ (l : List Sample). Begun (fresh reader) (outlook x.inlet) (left_of first) (left_of x.source) l) (sym (append-nil given)) b;
   id = refl;
   shape = refl;
@@ -178,7 +178,7 @@ pub record IsOneMore {S M : Type 0} (left_of : S → Option (List ℕ)) (faults_
   pub fits : IsFitting now.inlet.shape s
   pub shape : next.inlet.shape ≡ now.inlet.shape
   pub marked : mark_of next.source ≡ mark_of now.source
-  pub later : faults_of now.source ≤ faults_of next.source
+  pub quiet : faults_of next.source ≡ faults_of now.source
   pub id : next.id ≡ now.id
   pub push : IsPush now.ring next.ring s
   pub drops : next.drops ≡ now.drops + dropped_by now.ring
@@ -193,7 +193,7 @@ filling_more left_of faults_of mark_of x now next n s some f o =
       count = omega (arith, long, f.count);
       start = f.start;
       marked = o.marked ∙ f.marked;
-      later = omega (arith, o.later, f.later);
+      quiet = o.quiet ∙ f.quiet;
       given = λ reader first given b.
           subst (λ (l : List Sample). Begun (fresh reader) (outlook next.inlet) (left_of first) (left_of next.source) l) (append_assoc given f.more (s ∷ []))
           (begun_item feed_kind (fresh reader) (outlook now.inlet) (outlook next.inlet) (left_of first) (left_of now.source) (left_of next.source) (given ++ f.more) s (f.given reader first given b) o.answer);
@@ -249,8 +249,7 @@ filled_over left_of faults_of mark_of batch x e k over empty = record {
   count = omega arith;
   all = λ goes. absurd (cc);
   marked = refl;
-  later = omega arith;
-  given = λ reader first given le h. subst (λ (l : List Sample). HasGiven left_of faults_of reader first x l x.end) (sym (append-nil given)) h;
+  given = λ reader first given h. subst (λ (l : List Sample). HasGiven left_of faults_of reader first x l x.end) (sym (append-nil given)) h;
   over = λ d is. (is, refl);
   id = refl;
   shape = refl;
@@ -270,9 +269,9 @@ filled_all left_of faults_of mark_of batch x now k goes f = record {
   count = omega (arith, f.count);
   all = λ _. f.count;
   marked = f.marked;
-  later = f.later;
-  given = λ reader first given le h.
-      subst (HasGiven left_of faults_of reader first now (given ++ f.more)) (sym goes) (f.given reader first given (subst (HasGiven left_of faults_of reader first x given) f.start h));
+  given = λ reader first given h.
+      let b = subst (HasGiven left_of faults_of reader first x given) f.start h in
+      subst (HasGiven left_of faults_of reader first now (given ++ f.more)) (sym goes) (f.given reader first given b.0, f.quiet ∙ b.1);
   over = λ e is. absurd (cc);
   id = f.id;
   shape = f.shape;
@@ -288,21 +287,24 @@ filled_all left_of faults_of mark_of batch x now k goes f = record {
 -- the end was given
 pub record IsEnded {S M : Type 0} (left_of : S → Option (List ℕ)) (faults_of : S → ℕ) (mark_of : S → M) (now next : InletView S) (e : FeedEnd) : Type 0 where
   pub answer : Answered feed_kind (outlook now.inlet) (outlook next.inlet) (left_of now.source) (left_of next.source) (end e)
-  pub cause : (outlook now.inlet).is_over ≡ false → e ≡ ends.ReadFault → Rose (faults_of now.source) (faults_of next.source)
+  pub cause : Blames (((outlook now.inlet).is_over ≡ false) × (e ≡ ends.ReadFault)) (faults_of now.source) (faults_of next.source)
   pub shape : next.inlet.shape ≡ now.inlet.shape
   pub marked : mark_of next.source ≡ mark_of now.source
-  pub later : faults_of now.source ≤ faults_of next.source
   pub id : next.id ≡ now.id
   pub ring : next.ring ≡ now.ring
   pub drops : next.drops ≡ now.drops
   pub over : next.end ≡ Some e
 
 ended_given : {S M : Type 0} (left_of : S → Option (List ℕ)) (faults_of : S → ℕ) (mark_of : S → M) (now next : InletView S) (e : FeedEnd) (reader : Reader Sample FeedEnd) (first : S) (given : List Sample)
-    → IsEnded left_of faults_of mark_of now next e → faults_of first ≤ faults_of now.source → Begun (fresh reader) (outlook now.inlet) (left_of first) (left_of now.source) given
+    → IsEnded left_of faults_of mark_of now next e → faults_of now.source ≡ faults_of first → Begun (fresh reader) (outlook now.inlet) (left_of first) (left_of now.source) given
     → HasGiven left_of faults_of reader first next given (Some e)
-ended_given left_of faults_of mark_of now next e reader first given o le b = (
+ended_given left_of faults_of mark_of now next e reader first given o same b = (
   ends_so feed_kind reader (outlook now.inlet) (outlook next.inlet) (left_of first) (left_of now.source) (left_of next.source) given e b o.answer,
-  λ is. let rose = o.cause b.goes (fault_alone e is) in omega (arith, rose, le),
+  record {
+    later = omega (arith, o.cause.later, same);
+    rose = λ is. let rose = o.cause.rose (b.goes, fault_alone e is) in omega (arith, rose, same);
+    quiet = λ other. o.cause.quiet (λ h. other (ap feed_kind h.1)) ∙ same;
+  },
 )
 
 pub filled_end : {S M : Type 0} (left_of : S → Option (List ℕ)) (faults_of : S → ℕ) (mark_of : S → M) (batch n : ℕ) (x now next : InletView S) (e : FeedEnd) → IsKept next.inlet next.ring next.drops → n ≤ batch
@@ -312,11 +314,10 @@ filled_end left_of faults_of mark_of batch n x now next e k le f o = record {
   count = omega (arith, f.count, le);
   all = λ goes. let over = o.over in absurd (cc);
   marked = o.marked ∙ f.marked;
-  later = omega (arith, o.later, f.later);
-  given = λ reader first given early h.
-      let b = f.given reader first given (subst (HasGiven left_of faults_of reader first x given) f.start h) in
+  given = λ reader first given h.
+      let b = subst (HasGiven left_of faults_of reader first x given) f.start h in
       subst (HasGiven left_of faults_of reader first next (given ++ f.more)) (sym o.over)
-      (ended_given left_of faults_of mark_of now next e reader first (given ++ f.more) o (omega (arith, early, f.later)) b);
+      (ended_given left_of faults_of mark_of now next e reader first (given ++ f.more) o (f.quiet ∙ b.1) (f.given reader first given b.0));
   over = λ d is. let start = f.start in absurd (cc);
   id = o.id ∙ f.id;
   shape = o.shape ∙ f.shape;

@@ -34,17 +34,18 @@ use Rattle.record_run.proofs.Beside.{entries_turns}
 
 module _ {S M : Type 0} (left_of : S → Option (List ℕ)) (faults_of : S → ℕ) (mark_of : S → M) where
   read_by : (reader : Reader Sample FeedEnd) (first : S) (x : InletView S) (given : List Sample) (e : FeedEnd) (end : Option FeedEnd) → end ≡ Some e → HasGiven left_of faults_of reader first x given end
-      → mark_of x.source ≡ mark_of first → faults_of first ≤ faults_of x.source → IsRead left_of faults_of mark_of feed_kind reader first x.source given e
-  read_by reader first x given e None is h marked later = absurd cc
-  read_by reader first x given e (Some d) is h marked later =
+      → mark_of x.source ≡ mark_of first → IsRead left_of faults_of mark_of feed_kind reader first x.source given e
+  read_by reader first x given e None is h marked = absurd cc
+  read_by reader first x given e (Some d) is h marked =
       let same : d ≡ e = cc is in
       subst (λ (k : FeedEnd). IsRead left_of faults_of mark_of feed_kind reader first x.source given k) same (record {
         marked = marked;
-        later = later;
+        later = h.1.later;
         taken = h.0.0;
         lost = h.0.1;
         ends = h.0.2;
-        cause = h.1;
+        cause = h.1.rose;
+        quiet = h.1.quiet;
       })
 
   module _ (ring batch turns place : ℕ) (streams : List StreamDoc) (lists : List (List Sample)) (chunks : List Chunk) (stream : StreamDoc) (feed : FeedSource S) (samples : List Sample) (x : InletView S) (e : FeedEnd)
@@ -70,7 +71,7 @@ module _ {S M : Type 0} (left_of : S → Option (List ℕ)) (faults_of : S → �
     reached = subst (λ (n : ℕ). IsReached n k.state) k.capacity k.stands.reached
 
     read : IsRead left_of faults_of mark_of feed_kind (feed_of stream feed) feed.source x.source samples e
-    read = read_by (feed_of stream feed) feed.source x samples e x.end is k.given k.marked k.later
+    read = read_by (feed_of stream feed) feed.source x samples e x.end is k.given k.marked
 
     few : length k.state.dropped ≤ length samples - ring
     few = omega (arith, k.drops, k.few)

@@ -45,7 +45,7 @@ of_both samples (e ∷ es) fs a b = (a.0, of_both samples es fs a.1 b)
 module _ {S M : Type 0} (left_of : S → Option (List ℕ)) (faults_of : S → ℕ) (mark_of : S → M) where
   given_first : (stream : StreamDoc) (feed : FeedSource S) (x : InletView S) (given : List Sample) (e : Option FeedEnd) → HasGiven left_of faults_of (feed_of stream feed) feed.source x given e
       → AreFirstOf left_of (feed_of stream feed) feed.source given
-  given_first stream feed x given None h = first_begun stream feed left_of (outlook x.inlet) x.source given h
+  given_first stream feed x given None h = first_begun stream feed left_of (outlook x.inlet) x.source given h.0
   given_first stream feed x given (Some e) h = first_ended stream feed left_of (feed_kind e) x.source h.0.0 given e h.0.1 h.0.2
 
   module _ (ring batch turns : ℕ) (stream : StreamDoc) (feed : FeedSource S) (samples : List Sample) (x : InletView S) (k : IsTurned left_of faults_of mark_of ring batch turns stream feed samples x) where
@@ -72,7 +72,7 @@ module _ {S M : Type 0} (left_of : S → Option (List ℕ)) (faults_of : S → �
           samples = all;
           of = of_first all es first.0 (subst (AreOf all) first.1 (of_both all (kept_up_to ring batch samples turns) (map ring_entry y.ring.queue) taken queue));
           few = omega (arith, length-append samples f.more, k.pushes, f.pushes, f.bounded);
-          first = given_first stream feed y all y.end (f.given (feed_of stream feed) feed.source samples k.later k.given);
+          first = given_first stream feed y all y.end (f.given (feed_of stream feed) feed.source samples k.given);
         }
 
 -- ---- all feeds

@@ -47,14 +47,13 @@ nothing_at (s ∷ streams) (suc p) l e = nothing_at streams p l e
 module _ {S M : Type 0} (left_of : S → Option (List ℕ)) (faults_of : S → ℕ) (mark_of : S → M) where
   given_none : (stream : StreamDoc) (feed : FeedSource S) (x : InletView S) (e : Option _) → e ≡ None → x.source ≡ feed.source → ((more : List ℕ) (how : How) → (outlook x.inlet).coming more how ≡ feed_of stream feed more how)
       → (outlook x.inlet).is_over ≡ false → HasGiven left_of faults_of (feed_of stream feed) feed.source x [] e
-  given_none stream feed x None none source all goes = rw source (begun_fresh (feed_of stream feed) (outlook x.inlet) (left_of feed.source) all goes)
+  given_none stream feed x None none source all goes = (rw source (begun_fresh (feed_of stream feed) (outlook x.inlet) (left_of feed.source) all goes), ap faults_of source)
   given_none stream feed x (Some e) none source all goes = absurd cc
 
   new_turned : (ring batch : ℕ) (stream : StreamDoc) (feed : FeedSource S) (x : InletView S) → IsNewInlet ring stream feed x → IsTurned left_of faults_of mark_of ring batch 0 stream feed [] x
   new_turned ring batch stream feed x k = record {
     given = given_none stream feed x x.end k.end k.source k.all k.goes;
     marked = ap mark_of k.source;
-    later = let same = ap faults_of k.source in omega (arith, same);
     id = k.id;
     shape = k.shape;
     capacity = k.capacity;

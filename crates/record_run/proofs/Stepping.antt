@@ -93,9 +93,8 @@ module _ {S M : Type 0} (left_of : S → Option (List ℕ)) (faults_of : S → �
         let t = d.states s.0 s.1 in
         record {
           given = end_moved (feed_of stream feed) feed.source z (samples ++ f.more) y.end z.end d.end
-              (given_moved (feed_of stream feed) feed.source y z (samples ++ f.more) y.end d.source d.inlet (f.given (feed_of stream feed) feed.source samples k.later k.given));
+              (given_moved (feed_of stream feed) feed.source y z (samples ++ f.more) y.end d.source d.inlet (f.given (feed_of stream feed) feed.source samples k.given));
           marked = ap mark_of d.source ∙ f.marked ∙ k.marked;
-          later = let same = ap faults_of d.source in omega (arith, same, f.later, k.later);
           id = d.id ∙ f.id ∙ k.id;
           shape = ap (λ (i : _). i.shape) d.inlet ∙ f.shape ∙ k.shape;
           capacity = d.capacity ∙ f.capacity ∙ k.capacity;

@@ -2,7 +2,7 @@
 use Rattle.std.specs.Prelude.{◌≡◌, ℕ, ◌+◌, ◌-◌, ◌≤◌, List, [], ◌∷◌, ◌++◌, length, map, slice_get, Option, None, Some}
 use Rattle.std.specs.List.{AllByRecursion}
 use Rattle.std.specs.Io.KnownBytes.{Consumes}
-use Rattle.rec_base.specs.Causes.{Rose}
+use Rattle.rec_base.specs.Causes.{Blames}
 use Rattle.reading_model.specs.Outlook.{at_fault}
 use Rattle.reading_model.specs.Read.{Reader, EndsSo}
 use Rattle.piece_reader.specs.Steps.{Begun}
@@ -32,12 +32,12 @@ pub record InletView (S : Type 0) : Type 0 where
   pub ring : Lone Sample
   pub drops : ℕ
 
--- these samples were given of a source, and no end yet; or the end too
+-- these samples were given of a source, of which no read failed, and no end yet; or the end too
 abbrev pub HasGiven : {S : Type 0} → (S → Option (List ℕ)) → (S → ℕ) → Reader Sample FeedEnd → S → InletView S → List Sample → Option FeedEnd → Type 0
-HasGiven left_of faults_of reader first x given None = Begun (fresh reader) (outlook x.inlet) (left_of first) (left_of x.source) given
+HasGiven left_of faults_of reader first x given None = Begun (fresh reader) (outlook x.inlet) (left_of first) (left_of x.source) given × (faults_of x.source ≡ faults_of first)
 HasGiven left_of faults_of reader first x given (Some e) =
     ((taken : List ℕ) × Consumes (left_of first) (left_of x.source) taken × EndsSo (feed_kind e) reader taken (left_of x.source) given e)
-    × (feed_kind e ≡ at_fault → Rose (faults_of first) (faults_of x.source))
+    × Blames (feed_kind e ≡ at_fault) (faults_of first) (faults_of x.source)
 
 -- the counts of an inlet fit each other
 pub record IsKept (inlet : InletState) (ring : Lone Sample) (drops : ℕ) : Type 0 where
@@ -54,8 +54,7 @@ pub record IsFilled {S M : Type 0} (left_of : S → Option (List ℕ)) (faults_o
   pub count : length more ≤ batch
   pub all : y.end ≡ None → length more ≡ batch
   pub marked : mark_of y.source ≡ mark_of x.source
-  pub later : faults_of x.source ≤ faults_of y.source
-  pub given : (reader : Reader Sample FeedEnd) (first : S) (given : List Sample) → faults_of first ≤ faults_of x.source
+  pub given : (reader : Reader Sample FeedEnd) (first : S) (given : List Sample)
       → HasGiven left_of faults_of reader first x given x.end → HasGiven left_of faults_of reader first y (given ++ more) y.end
   pub over : (e : FeedEnd) → x.end ≡ Some e → (y.end ≡ Some e) × (more ≡ [])
   pub id : y.id ≡ x.id

@@ -21,7 +21,6 @@ use Rattle.record_run.specs.Inlets.{InletView, HasGiven}
 pub record IsTurned {S M : Type 0} (left_of : S → Option (List ℕ)) (faults_of : S → ℕ) (mark_of : S → M) (ring batch turns : ℕ) (stream : StreamDoc) (feed : FeedSource S) (samples : List Sample) (x : InletView S) : Type 0 where
   pub given : HasGiven left_of faults_of (feed_of stream feed) feed.source x samples x.end
   pub marked : mark_of x.source ≡ mark_of feed.source
-  pub later : faults_of feed.source ≤ faults_of x.source
   pub id : x.id ≡ stream.id
   pub shape : x.inlet.shape ≡ stream.shape
   pub capacity : x.ring.capacity ≡ ring

@@ -1,7 +1,7 @@
 //! An inlet: the reader of a feed, and the ring between it and the writer.
 
 ghost use Rattle.std.specs.Prelude.{◌≡◌, ◌≤◌, ◌<◌, ◌≢◌, ◌-◌, ℕ, List, [], ◌++◌, false, length, map, slice_get, None, Some, Option, IfOk, OnOk, OnErr, IsErrOf};
-ghost use Rattle.rec_base.specs.Causes.{Rose};
+ghost use Rattle.rec_base.specs.Causes.{Blames};
 ghost use Rattle.reading_model.specs.Outlook.{How};
 ghost use Rattle.xdf_model.specs.Sample.{size_of};
 ghost use Rattle.ring_model.specs.Ring.{new_ring};
@@ -137,8 +137,7 @@ impl<S: Source> Inlet<S> {
         ensures closed { OnOk result (writer.new.room.desk.count ≡ 0) }
         ensures whole { OnOk result (writer.new.room.desk.broken ≡ false) }
         ensures memory { IsErrOf result WriterFault.Memory → 1 ≤ size_of self.old.inlet.shape.format → ⊥ }
-        ensures cause { IsErrOf result WriterFault.WriteFault → Rose (K.write_faults writer.old.sink.now) (K.write_faults writer.new.sink.now) }
-        ensures later { K.write_faults writer.old.sink.now ≤ K.write_faults writer.new.sink.now }
+        ensures cause { Blames (IsErrOf result WriterFault.WriteFault) (K.write_faults writer.old.sink.now) (K.write_faults writer.new.sink.now) }
         ensures rest { K.rest writer.new.sink.now ≡ K.rest writer.old.sink.now }
     {
         'entries: while self.ring.put_oldest(writer, place)? {}

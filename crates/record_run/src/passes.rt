@@ -1,7 +1,7 @@
 //! The two passes of a turn over all inlets.
 
 ghost use Rattle.std.specs.Prelude.{◌≡◌, ◌≤◌, ℕ, List, [], ◌++◌, false, length, slice_get, Some, None, Option, OnOk, OnErr, IsErrOf};
-ghost use Rattle.rec_base.specs.Causes.{Rose};
+ghost use Rattle.rec_base.specs.Causes.{Blames};
 ghost use Rattle.recording_model.specs.declared.stream.StreamDoc.{StreamDoc as StreamValue};
 ghost use Rattle.recording_model.specs.Batch.{Batch};
 ghost use Rattle.record_writer.specs.Desk.{next_at, shapes_of};
@@ -50,8 +50,7 @@ pub(crate) fn drain_all<S: Source, K: Sink>(
     ensures closed { OnOk result (writer.new.room.desk.count ≡ 0) }
     ensures whole { OnOk result (writer.new.room.desk.broken ≡ false) }
     ensures memory { IsErrOf result WriterFault.Memory → AreNumeric inlets.old → ⊥ }
-    ensures cause { IsErrOf result WriterFault.WriteFault → Rose (K.write_faults writer.old.sink.now) (K.write_faults writer.new.sink.now) }
-    ensures later { K.write_faults writer.old.sink.now ≤ K.write_faults writer.new.sink.now }
+    ensures cause { Blames (IsErrOf result WriterFault.WriteFault) (K.write_faults writer.old.sink.now) (K.write_faults writer.new.sink.now) }
     ensures rest { K.rest writer.new.sink.now ≡ K.rest writer.old.sink.now }
 {
     for place in 0..inlets.len() {

@@ -2,7 +2,7 @@
 
 ghost use Rattle.std.specs.Prelude.{◌≡◌, ◌≢◌, ◌≤◌, ℕ, List, length, IfOk};
 ghost use Rattle.std.specs.List.{AllByRecursion};
-ghost use Rattle.rec_base.specs.Causes.{Rose};
+ghost use Rattle.rec_base.specs.Causes.{Blames};
 ghost use Rattle.plan_model.specs.declared.plan.Mode.TheVariants.{Threads as ByThreads, Turns as ByTurns};
 ghost use Rattle.recording_model.specs.declared.stream.StreamDoc.{StreamDoc as StreamValue};
 ghost use Rattle.recording_model.specs.Recording.{AreStreams};
@@ -101,8 +101,7 @@ impl<S: Source + Send + Drop> Recorder<S> {
             → IsStopped S.left streams feeds (K.held sink.old) (K.held sink.new) result }
         ensures memory { (ring batch : ℕ) (streams : List StreamValue) (feeds : List (FeedValue S)) → IsOpenFor ByTurns ring batch streams feeds self
             → AreNumbers streams → result ≢ Outcome.Memory }
-        ensures cause { result ≡ Outcome.WriteFault → Rose (K.write_faults sink.old) (K.write_faults sink.new) }
-        ensures later { K.write_faults sink.old ≤ K.write_faults sink.new }
+        ensures cause { Blames (result ≡ Outcome.WriteFault) (K.write_faults sink.old) (K.write_faults sink.new) }
         ensures rest { K.rest sink.new ≡ K.rest sink.old }
     {
         match self.modes {
@@ -134,8 +133,7 @@ impl<S: Source + Send + Drop> Recorder<S> {
             → IsStopped S.left streams feeds (K.held sink.old) (K.held sink.new) result }
         ensures memory { (ring batch : ℕ) (streams : List StreamValue) (feeds : List (FeedValue S)) → IsOpenFor ByThreads ring batch streams feeds self
             → AreNumbers streams → result ≢ Outcome.Memory }
-        ensures cause { result ≡ Outcome.WriteFault → Rose (K.write_faults sink.old) (K.write_faults sink.new) }
-        ensures later { K.write_faults sink.old ≤ K.write_faults sink.new }
+        ensures cause { Blames (result ≡ Outcome.WriteFault) (K.write_faults sink.old) (K.write_faults sink.new) }
         ensures rest { K.rest sink.new ≡ K.rest sink.old }
     {
         self.run_threads_home(rt, sink).0
@@ -158,8 +156,7 @@ impl<S: Source + Send + Drop> Recorder<S> {
             → AreNumbers streams → result.0 ≢ Outcome.Memory }
         ensures home_at_fault { result.0 ≡ Outcome.WriteFault → result.1 ≡ 0 }
         ensures home_at_memory { result.0 ≡ Outcome.Memory → result.1 ≡ 0 }
-        ensures cause { result.0 ≡ Outcome.WriteFault → Rose (K.write_faults sink.old) (K.write_faults sink.new) }
-        ensures later { K.write_faults sink.old ≤ K.write_faults sink.new }
+        ensures cause { Blames (result.0 ≡ Outcome.WriteFault) (K.write_faults sink.old) (K.write_faults sink.new) }
         ensures rest { K.rest sink.new ≡ K.rest sink.old }
     {
         match self.modes {

@@ -1,7 +1,7 @@
 //! The ring of a feed, and one sample's way into it and out of it.
 
 ghost use Rattle.std.specs.Prelude.{◌≡◌, ◌≤◌, ◌<◌, ◌≢◌, ◌+◌, ◌*◌, ◌^◌, ℕ, List, [], false, length, slice_get, None, Some, Option, IfOk, IfErr, OnErr, IsErrOf};
-ghost use Rattle.rec_base.specs.Causes.{Rose};
+ghost use Rattle.rec_base.specs.Causes.{Blames, HasCause};
 ghost use Rattle.reading_model.specs.Outlook.{Answered};
 ghost use Rattle.xdf_model.specs.declared.types.Shape.{Shape as ShapeValue};
 ghost use Rattle.xdf_model.specs.Sample.{Sample as SampleValue, size_of};
@@ -78,8 +78,7 @@ fn take_numbers<S: Source>(ring: &mut BlockRing, reader: &mut FeedReader<S>) -> 
     ensures kept { (ring.new.shape ≡ ring.old.shape) × (ring.new.size ≡ ring.old.size) × (ring.new.lent ≡ 0) }
     ensures bounded { reader.new.inlet.received ≤ reader.new.inlet.byte_limit }
     ensures same_shape { (reader.new.inlet.shape ≡ reader.old.inlet.shape) × (reader.new.inlet.byte_limit ≡ reader.old.inlet.byte_limit) }
-    ensures cause { (outlook reader.old.inlet).is_over ≡ false → result ≡ Given.End FeedEnd.ReadFault → Rose (S.faults reader.old.source) (S.faults reader.new.source) }
-    ensures later { S.faults reader.old.source ≤ S.faults reader.new.source }
+    ensures cause { Blames (((outlook reader.old.inlet).is_over ≡ false) × (result ≡ Given.End FeedEnd.ReadFault)) (S.faults reader.old.source) (S.faults reader.new.source) }
     ensures marked { S.mark reader.new.source ≡ S.mark reader.old.source }
     ensures memory { result ≢ Given.Memory }
 {
@@ -104,8 +103,7 @@ fn take_texts<S: Source>(ring: &mut TextRing, reader: &mut FeedReader<S>) -> Giv
         × FitsGiven reader.old.inlet.shape step × (reader.new.inlet.received ≡ received_by step reader.old.inlet.received) }
     ensures bounded { reader.new.inlet.received ≤ reader.new.inlet.byte_limit }
     ensures same_shape { (reader.new.inlet.shape ≡ reader.old.inlet.shape) × (reader.new.inlet.byte_limit ≡ reader.old.inlet.byte_limit) }
-    ensures cause { (outlook reader.old.inlet).is_over ≡ false → result ≡ Given.End FeedEnd.ReadFault → Rose (S.faults reader.old.source) (S.faults reader.new.source) }
-    ensures later { S.faults reader.old.source ≤ S.faults reader.new.source }
+    ensures cause { Blames (((outlook reader.old.inlet).is_over ≡ false) × (result ≡ Given.End FeedEnd.ReadFault)) (S.faults reader.old.source) (S.faults reader.new.source) }
     ensures marked { S.mark reader.new.source ≡ S.mark reader.old.source }
 {
     let mut sample = ring.lend();
@@ -146,8 +144,7 @@ fn put_numbers<K: Sink>(
         → StandsFor streams base (K.held writer.old.sink.now) writer.old.room.desk batches current
         → OnErr result ((some : List Batch) × IsCut streams base (K.held writer.new.sink.now) some × IsCutAt place [] ring.old.ring.queue (closed batches current) some) }
     ensures fault { IfErr result (λ f. f ≡ WriterFault.WriteFault) }
-    ensures cause { OnErr result (Rose (K.write_faults writer.old.sink.now) (K.write_faults writer.new.sink.now)) }
-    ensures later { K.write_faults writer.old.sink.now ≤ K.write_faults writer.new.sink.now }
+    ensures cause { HasCause (K.write_faults writer.old.sink.now) (K.write_faults writer.new.sink.now) result }
     ensures rest { K.rest writer.new.sink.now ≡ K.rest writer.old.sink.now }
 {
     let Some(entry) = ring.take() else {
@@ -178,8 +175,7 @@ fn put_texts<K: Sink>(
     ensures cut { (streams : List StreamValue) (base : Option (List ℕ)) (batches : List Batch) (current : Option Batch)
         → StandsFor streams base (K.held writer.old.sink.now) writer.old.room.desk batches current
         → OnErr result ((some : List Batch) × IsCut streams base (K.held writer.new.sink.now) some × IsCutAt place [] ring.old.queue (closed batches current) some) }
-    ensures cause { IsErrOf result WriterFault.WriteFault → Rose (K.write_faults writer.old.sink.now) (K.write_faults writer.new.sink.now) }
-    ensures later { K.write_faults writer.old.sink.now ≤ K.write_faults writer.new.sink.now }
+    ensures cause { Blames (IsErrOf result WriterFault.WriteFault) (K.write_faults writer.old.sink.now) (K.write_faults writer.new.sink.now) }
     ensures rest { K.rest writer.new.sink.now ≡ K.rest writer.old.sink.now }
 {
     let Some(entry) = ring.take() else {
@@ -232,8 +228,7 @@ impl FeedRing {
         ensures shape { self.new.shape ≡ self.old.shape }
         ensures bounded { reader.new.inlet.received ≤ reader.new.inlet.byte_limit }
         ensures same_shape { (reader.new.inlet.shape ≡ reader.old.inlet.shape) × (reader.new.inlet.byte_limit ≡ reader.old.inlet.byte_limit) }
-        ensures cause { (outlook reader.old.inlet).is_over ≡ false → result ≡ Given.End FeedEnd.ReadFault → Rose (S.faults reader.old.source) (S.faults reader.new.source) }
-        ensures later { S.faults reader.old.source ≤ S.faults reader.new.source }
+        ensures cause { Blames (((outlook reader.old.inlet).is_over ≡ false) × (result ≡ Given.End FeedEnd.ReadFault)) (S.faults reader.old.source) (S.faults reader.new.source) }
         ensures marked { S.mark reader.new.source ≡ S.mark reader.old.source }
         ensures memory { 1 ≤ size_of self.old.shape.format → result ≢ Given.Memory }
     {
@@ -263,8 +258,7 @@ impl FeedRing {
             → StandsFor streams base (K.held writer.old.sink.now) writer.old.room.desk batches current
             → OnErr result ((some : List Batch) × IsCut streams base (K.held writer.new.sink.now) some × IsCutAt place [] self.old.lone.queue (closed batches current) some) }
         ensures memory { IsErrOf result WriterFault.Memory → 1 ≤ size_of self.old.shape.format → ⊥ }
-        ensures cause { IsErrOf result WriterFault.WriteFault → Rose (K.write_faults writer.old.sink.now) (K.write_faults writer.new.sink.now) }
-        ensures later { K.write_faults writer.old.sink.now ≤ K.write_faults writer.new.sink.now }
+        ensures cause { Blames (IsErrOf result WriterFault.WriteFault) (K.write_faults writer.old.sink.now) (K.write_faults writer.new.sink.now) }
         ensures rest { K.rest writer.new.sink.now ≡ K.rest writer.old.sink.now }
     {
         match &mut self.rooms {

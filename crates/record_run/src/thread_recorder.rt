@@ -2,7 +2,7 @@
 
 ghost use Rattle.std.specs.Prelude.{◌≡◌, ◌≢◌, ◌≤◌, ℕ, List, length, IfOk};
 ghost use Rattle.std.specs.List.{AllByRecursion};
-ghost use Rattle.rec_base.specs.Causes.{Rose};
+ghost use Rattle.rec_base.specs.Causes.{Blames};
 ghost use Rattle.plan_model.specs.declared.plan.Mode.TheVariants.{Threads as ByThreads};
 ghost use Rattle.recording_model.specs.declared.stream.StreamDoc.{StreamDoc as StreamValue};
 ghost use Rattle.recording_model.specs.Recording.{AreStreams};
@@ -79,8 +79,7 @@ impl<S: Source + Send + Drop> ThreadRecorder<S> {
             → AreNumbers streams → result.0 ≢ Outcome.Memory }
         ensures home_at_fault { result.0 ≡ Outcome.WriteFault → result.1 ≡ 0 }
         ensures home_at_memory { result.0 ≡ Outcome.Memory → result.1 ≡ 0 }
-        ensures cause { result.0 ≡ Outcome.WriteFault → Rose (K.write_faults sink.old) (K.write_faults sink.new) }
-        ensures later { K.write_faults sink.old ≤ K.write_faults sink.new }
+        ensures cause { Blames (result.0 ≡ Outcome.WriteFault) (K.write_faults sink.old) (K.write_faults sink.new) }
         ensures rest { K.rest sink.new ≡ K.rest sink.old }
     {
         let ThreadRecorder { feeds, room, batch } = self;

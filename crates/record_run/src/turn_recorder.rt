@@ -2,7 +2,7 @@
 
 ghost use Rattle.std.specs.Prelude.{◌≡◌, ◌≢◌, ◌≤◌, [], ℕ, List, length, map, slice_get, vec_capacity, Some, IfOk};
 ghost use Rattle.std.specs.List.{AllByRecursion};
-ghost use Rattle.rec_base.specs.Causes.{Rose};
+ghost use Rattle.rec_base.specs.Causes.{Blames};
 ghost use Rattle.plan_model.specs.declared.plan.Mode.TheVariants.{Turns};
 ghost use Rattle.recording_model.specs.declared.stream.StreamDoc.{StreamDoc as StreamValue};
 ghost use Rattle.recording_model.specs.Recording.{AreStreams};
@@ -134,8 +134,7 @@ impl<S: Source + Send + Drop> TurnRecorder<S> {
             → IsStopped S.left streams feeds (K.held sink.old) (K.held sink.new) result }
         ensures memory { (ring batch : ℕ) (streams : List StreamValue) (feeds : List (FeedValue S)) → AreTurnsFor ring batch streams feeds self
             → AreNumbers streams → result ≢ Outcome.Memory }
-        ensures cause { result ≡ Outcome.WriteFault → Rose (K.write_faults sink.old) (K.write_faults sink.new) }
-        ensures later { K.write_faults sink.old ≤ K.write_faults sink.new }
+        ensures cause { Blames (result ≡ Outcome.WriteFault) (K.write_faults sink.old) (K.write_faults sink.new) }
         ensures rest { K.rest sink.new ≡ K.rest sink.old }
     {
         let TurnRecorder {

@@ -1,7 +1,7 @@
 //! The turns of a run, and its end.
 
 ghost use Rattle.std.specs.Prelude.{◌≡◌, ◌≤◌, ℕ, List, [], false, length, map, slice_get, vec_capacity, Some, None, Option, IsTrue, IfOk, IfErr, OnOk, OnErr, IsErrOf};
-ghost use Rattle.rec_base.specs.Causes.{Rose};
+ghost use Rattle.rec_base.specs.Causes.{Blames, HasCause};
 ghost use Rattle.xdf_model.specs.Sample.{Sample as SampleValue};
 ghost use Rattle.plan_model.specs.declared.plan.Mode.TheVariants.{Turns};
 ghost use Rattle.recording_model.specs.declared.stream.StreamDoc.{StreamDoc as StreamValue};
@@ -53,8 +53,7 @@ pub(crate) fn take_turns<S: Source, K: Sink>(
     ensures closed { OnOk result ((writer.new.room.desk.count ≡ 0) × (writer.new.room.desk.broken ≡ false)) }
     ensures memory { (ring : ℕ) (streams : List StreamValue) (feeds : List (FeedValue S)) → AreTurnsFor ring batch streams feeds (record { inlets = inlets.old; desk = writer.old.room.desk; batch = batch })
         → AreNumbers streams → IsErrOf result WriterFault.Memory → ⊥ }
-    ensures cause { IsErrOf result WriterFault.WriteFault → Rose (K.write_faults writer.old.sink.now) (K.write_faults writer.new.sink.now) }
-    ensures later { K.write_faults writer.old.sink.now ≤ K.write_faults writer.new.sink.now }
+    ensures cause { Blames (IsErrOf result WriterFault.WriteFault) (K.write_faults writer.old.sink.now) (K.write_faults writer.new.sink.now) }
     ensures rest { K.rest writer.new.sink.now ≡ K.rest writer.old.sink.now }
 {
     writer.begin()?;
@@ -109,8 +108,7 @@ pub(crate) fn finish<S: Source, K: Sink>(
         → AreTurned S.left S.faults S.mark ring batch turns streams feeds base (K.held writer.entry.sink.now) writer.entry.room.desk lists inlets.now
         → OnErr result (IsCutOff S.left streams feeds base (K.held writer.exit.0.now)) }
     ensures fault { IfErr result (λ f. f ≡ WriterFault.WriteFault) }
-    ensures cause { OnErr result (Rose (K.write_faults writer.entry.sink.now) (K.write_faults writer.exit.0.now)) }
-    ensures later { K.write_faults writer.entry.sink.now ≤ K.write_faults writer.exit.0.now }
+    ensures cause { HasCause (K.write_faults writer.entry.sink.now) (K.write_faults writer.exit.0.now) result }
     ensures rest { K.rest writer.exit.0.now ≡ K.rest writer.entry.sink.now }
 {
     let mut reports = reports;
@@ -148,8 +146,7 @@ pub(crate) fn record<S: Source, K: Sink>(
         → OnErr result (IsCutOff S.left streams feeds (K.held sink.old) (K.held sink.new)) }
     ensures memory { (ring : ℕ) (streams : List StreamValue) (feeds : List (FeedValue S)) → AreTurnsFor ring batch streams feeds (record { inlets = inlets.old; desk = room.desk; batch = batch })
         → AreNumbers streams → IsErrOf result WriterFault.Memory → ⊥ }
-    ensures cause { IsErrOf result WriterFault.WriteFault → Rose (K.write_faults sink.old) (K.write_faults sink.new) }
-    ensures later { K.write_faults sink.old ≤ K.write_faults sink.new }
+    ensures cause { Blames (IsErrOf result WriterFault.WriteFault) (K.write_faults sink.old) (K.write_faults sink.new) }
     ensures rest { K.rest sink.new ≡ K.rest sink.old }
 {
     let mut writer = Lent::over(sink, room);

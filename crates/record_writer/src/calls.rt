@@ -1,7 +1,7 @@
 //! The calls of a writer, on a desk and a sink.
 
 ghost use Rattle.std.specs.Prelude.{◌≡◌, ◌≤◌, ◌<◌, ◌+◌, ◌==◌, ◌^◌, OnOk, OnErr, IfOk, IfErr, IsErrOf, Option, Some, None, List, [], ℕ, slice_get, length, sum_by, true, false, if◌then◌else◌};
-ghost use Rattle.rec_base.specs.Causes.{Rose};
+ghost use Rattle.rec_base.specs.Causes.{Blames, HasCause};
 ghost use Rattle.xdf_model.specs.Sample.{Sample as SampleValue, FitsShape, least_sample_text};
 ghost use Rattle.feed_model.specs.Feed.{text_size, text_limit};
 ghost use Rattle.recording_model.specs.declared.stream.StreamDoc.{StreamDoc as StreamValue};
@@ -26,8 +26,7 @@ impl Desk {
         ensures fault { IfErr result (λ f. f ≡ WriterFault.WriteFault) }
         ensures kept { OnOk result (self.new ≡ self.old) }
         ensures broken { OnErr result (self.new.broken ≡ true) }
-        ensures cause { OnErr result (Rose (K.write_faults sink.old) (K.write_faults sink.new)) }
-        ensures later { K.write_faults sink.old ≤ K.write_faults sink.new }
+        ensures cause { HasCause (K.write_faults sink.old) (K.write_faults sink.new) result }
         ensures rest { K.rest sink.new ≡ K.rest sink.old }
     {
         self.write_front(sink)?;
@@ -62,8 +61,7 @@ impl Desk {
         ensures open { OnOk result ((1 ≤ self.new.count) × (self.new.place ≡ place)) }
         ensures whole { OnOk result (self.new.broken ≡ false) }
         ensures broken { IsErrOf result WriterFault.WriteFault → self.new.broken ≡ true }
-        ensures cause { IsErrOf result WriterFault.WriteFault → Rose (K.write_faults sink.old) (K.write_faults sink.new) }
-        ensures later { K.write_faults sink.old ≤ K.write_faults sink.new }
+        ensures cause { Blames (IsErrOf result WriterFault.WriteFault) (K.write_faults sink.old) (K.write_faults sink.new) }
         ensures rest { K.rest sink.new ≡ K.rest sink.old }
     {
         let shape = self.spot(place).shape;
@@ -104,8 +102,7 @@ impl Desk {
         ensures open { OnOk result ((1 ≤ self.new.count) × (self.new.place ≡ place)) }
         ensures whole { OnOk result (self.new.broken ≡ false) }
         ensures broken { OnErr result (self.new.broken ≡ true) }
-        ensures cause { OnErr result (Rose (K.write_faults sink.old) (K.write_faults sink.new)) }
-        ensures later { K.write_faults sink.old ≤ K.write_faults sink.new }
+        ensures cause { HasCause (K.write_faults sink.old) (K.write_faults sink.new) result }
         ensures rest { K.rest sink.new ≡ K.rest sink.old }
     {
         let _room = self.texts.room();
@@ -130,8 +127,7 @@ impl Desk {
         ensures none { OnOk result (self.new.count ≡ 0) }
         ensures whole { OnOk result (self.new.broken ≡ false) }
         ensures broken { OnErr result (self.new.broken ≡ true) }
-        ensures cause { OnErr result (Rose (K.write_faults sink.old) (K.write_faults sink.new)) }
-        ensures later { K.write_faults sink.old ≤ K.write_faults sink.new }
+        ensures cause { HasCause (K.write_faults sink.old) (K.write_faults sink.new) result }
         ensures rest { K.rest sink.new ≡ K.rest sink.old }
     {
         self.end_group(sink)?;
@@ -147,8 +143,7 @@ impl Desk {
         ensures cut { (streams : List StreamValue) (base : Option (List ℕ)) (batches : List Batch)
             → StandsFor streams base (K.held sink.old) self.old batches None → OnErr result (IsCut streams base (K.held sink.new) batches) }
         ensures fault { IfErr result (λ f. f ≡ WriterFault.WriteFault) }
-        ensures cause { OnErr result (Rose (K.write_faults sink.old) (K.write_faults sink.new)) }
-        ensures later { K.write_faults sink.old ≤ K.write_faults sink.new }
+        ensures cause { HasCause (K.write_faults sink.old) (K.write_faults sink.new) result }
         ensures rest { K.rest sink.new ≡ K.rest sink.old }
     {
         self.write_footers(sink)?;

@@ -2,7 +2,7 @@
 
 ghost use Rattle.std.specs.Prelude.{◌≡◌, ◌≤◌, ◌<◌, ◌+◌, ◌==◌, ◌^◌, OnOk, OnErr, IfOk, IfErr, IsErrOf, Option, Some, None, List, [], ℕ, slice_get, length, map, sum_by, true, false, if◌then◌else◌};
 ghost use Rattle.std.specs.List.{AllByRecursion};
-ghost use Rattle.rec_base.specs.Causes.{Rose};
+ghost use Rattle.rec_base.specs.Causes.{Blames, HasCause};
 ghost use Rattle.xdf_model.specs.Sample.{Sample as SampleValue, FitsShape, least_sample_text};
 ghost use Rattle.feed_model.specs.Feed.{text_size, text_limit};
 ghost use Rattle.recording_model.specs.declared.stream.StreamDoc.{StreamDoc as StreamValue};
@@ -67,60 +67,10 @@ impl<'a, K: Sink> Lent<'a, K, WriterRoom> {
         ensures fault { IfErr result (λ f. f ≡ WriterFault.WriteFault) }
         ensures kept { OnOk result (self.new.room.desk ≡ self.old.room.desk) }
         ensures broken { OnErr result (self.new.room.desk.broken ≡ true) }
-        ensures cause { OnErr result (Rose (K.write_faults self.old.sink.now) (K.write_faults self.new.sink.now)) }
-        ensures later { K.write_faults self.old.sink.now ≤ K.write_faults self.new.sink.now }
+        ensures cause { HasCause (K.write_faults self.old.sink.now) (K.write_faults self.new.sink.now) result }
         ensures rest { K.rest self.new.sink.now ≡ K.rest self.old.sink.now }
     {
         self.room.desk.begin(self.sink)
-    }
-
-    /// Begins in a room that was made before: a writer that has written the headers, as `begin` does.
-    /// This project's own. It takes no memory.
-    ///
-    /// `Failed` comes only where a write of the sink failed in this call; a front of the headers went
-    /// out then. What a sink that is lent to nobody any more holds after an `Err` can't be said here;
-    /// with `over` and `begin` it is.
-    pub fn open_in(sink: &'a mut K, room: WriterRoom) -> Result<Lent<'a, K, WriterRoom>, Failed>
-        requires whole { room.desk.broken ≡ false }
-        ensures same_reference { IfOk result (λ w. w.sink.ghost_name ≡ sink.entry.ghost_name) }
-        ensures begun { (streams : List StreamValue) → IsReady streams room.desk
-            → IfOk result (λ w. StandsFor streams (K.held sink.old) (K.held w.sink.now) w.room.desk [] None) }
-        ensures kept { IfOk result (λ w. w.room.desk ≡ room.desk) }
-        ensures whole { IfOk result (λ w. w.room.desk.broken ≡ false) }
-        ensures later { IfOk result (λ w. K.write_faults sink.old ≤ K.write_faults w.sink.now) }
-        ensures rest { IfOk result (λ w. K.rest w.sink.now ≡ K.rest sink.old) }
-    {
-        let mut writer = Lent::over(sink, room);
-        match writer.begin() {
-            Ok(()) => Ok(writer),
-            Err(_) => Err(Failed),
-        }
-    }
-
-    /// Makes the room, and begins: a writer that has written the headers.
-    ///
-    /// `WriteFault` comes only where a write of the sink failed in this call; a front of the headers
-    /// went out then. `Memory` comes for want of memory alone, and nothing was written. What a sink
-    /// that is lent to nobody any more holds after an `Err` can't be said here; with `over` and
-    /// `begin` it is.
-    pub fn open(
-        alloc: Global,
-        sink: &'a mut K,
-        streams: &[StreamDoc],
-    ) -> Result<Lent<'a, K, WriterRoom>, WriterFault>
-        requires are { AreStreams streams.now }
-        requires some { 1 ≤ length streams.now }
-        requires few { length streams.now ≤ 64 }
-        requires short { AllByRecursion (λ s. length s.doc ≤ 1_048_576) streams.now }
-        ensures same_reference { IfOk result (λ w. w.sink.ghost_name ≡ sink.entry.ghost_name) }
-        ensures begun { IfOk result (λ w. StandsFor streams.now (K.held sink.old) (K.held w.sink.now) w.room.desk [] None) }
-        ensures places { IfOk result (λ w. w.room.desk.places ≡ map new_place streams.now) }
-        ensures whole { IfOk result (λ w. (w.room.desk.broken ≡ false) × (w.room.desk.count ≡ 0)) }
-        ensures later { IfOk result (λ w. K.write_faults sink.old ≤ K.write_faults w.sink.now) }
-        ensures rest { IfOk result (λ w. K.rest w.sink.now ≡ K.rest sink.old) }
-    {
-        let room = WriterRoom::new(alloc, streams)?;
-        Ok(Lent::open_in(sink, room)?)
     }
 
     /// Puts the sample at a position of the stream at a place, both counted from 0. Where positions are
@@ -153,8 +103,7 @@ impl<'a, K: Sink> Lent<'a, K, WriterRoom> {
         ensures open { OnOk result ((1 ≤ self.new.room.desk.count) × (self.new.room.desk.place ≡ place)) }
         ensures whole { OnOk result (self.new.room.desk.broken ≡ false) }
         ensures broken { IsErrOf result WriterFault.WriteFault → self.new.room.desk.broken ≡ true }
-        ensures cause { IsErrOf result WriterFault.WriteFault → Rose (K.write_faults self.old.sink.now) (K.write_faults self.new.sink.now) }
-        ensures later { K.write_faults self.old.sink.now ≤ K.write_faults self.new.sink.now }
+        ensures cause { Blames (IsErrOf result WriterFault.WriteFault) (K.write_faults self.old.sink.now) (K.write_faults self.new.sink.now) }
         ensures rest { K.rest self.new.sink.now ≡ K.rest self.old.sink.now }
     {
         self.room
@@ -198,8 +147,7 @@ impl<'a, K: Sink> Lent<'a, K, WriterRoom> {
         ensures open { OnOk result ((1 ≤ self.new.room.desk.count) × (self.new.room.desk.place ≡ place)) }
         ensures whole { OnOk result (self.new.room.desk.broken ≡ false) }
         ensures broken { OnErr result (self.new.room.desk.broken ≡ true) }
-        ensures cause { OnErr result (Rose (K.write_faults self.old.sink.now) (K.write_faults self.new.sink.now)) }
-        ensures later { K.write_faults self.old.sink.now ≤ K.write_faults self.new.sink.now }
+        ensures cause { HasCause (K.write_faults self.old.sink.now) (K.write_faults self.new.sink.now) result }
         ensures rest { K.rest self.new.sink.now ≡ K.rest self.old.sink.now }
     {
         self.room
@@ -225,8 +173,7 @@ impl<'a, K: Sink> Lent<'a, K, WriterRoom> {
         ensures none { OnOk result (self.new.room.desk.count ≡ 0) }
         ensures whole { OnOk result (self.new.room.desk.broken ≡ false) }
         ensures broken { OnErr result (self.new.room.desk.broken ≡ true) }
-        ensures cause { OnErr result (Rose (K.write_faults self.old.sink.now) (K.write_faults self.new.sink.now)) }
-        ensures later { K.write_faults self.old.sink.now ≤ K.write_faults self.new.sink.now }
+        ensures cause { HasCause (K.write_faults self.old.sink.now) (K.write_faults self.new.sink.now) result }
         ensures rest { K.rest self.new.sink.now ≡ K.rest self.old.sink.now }
     {
         self.room.desk.close(self.sink)
@@ -246,8 +193,7 @@ impl<'a, K: Sink> Lent<'a, K, WriterRoom> {
         ensures cut { (streams : List StreamValue) (base : Option (List ℕ)) (batches : List Batch)
             → StandsFor streams base (K.held self.entry.sink.now) self.entry.room.desk batches None → OnErr result (IsCut streams base (K.held self.exit.0.now) batches) }
         ensures fault { IfErr result (λ f. f ≡ WriterFault.WriteFault) }
-        ensures cause { OnErr result (Rose (K.write_faults self.entry.sink.now) (K.write_faults self.exit.0.now)) }
-        ensures later { K.write_faults self.entry.sink.now ≤ K.write_faults self.exit.0.now }
+        ensures cause { HasCause (K.write_faults self.entry.sink.now) (K.write_faults self.exit.0.now) result }
         ensures rest { K.rest self.exit.0.now ≡ K.rest self.entry.sink.now }
     {
         let mut room = self.room;

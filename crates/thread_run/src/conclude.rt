@@ -1,7 +1,7 @@
 //! The end of a run by threads.
 
 ghost use Rattle.std.specs.Prelude.{◌≡◌, ◌≢◌, ◌≤◌, ℕ, List, [], false, length, map, slice_get, Some, Option, vec_capacity, IsTrue};
-ghost use Rattle.rec_base.specs.Causes.{Rose};
+ghost use Rattle.rec_base.specs.Causes.{Blames};
 ghost use Rattle.inlet_model.specs.declared.end.FeedEnd.{FeedEnd as EndValue};
 ghost use Rattle.plan_model.specs.declared.plan.Mode.TheVariants.{Threads as ByThreads};
 ghost use Rattle.recording_model.specs.declared.stream.StreamDoc.{StreamDoc as StreamValue};
@@ -143,8 +143,7 @@ pub(crate) fn conclude<S: Source + Drop, K: Sink, R: Wait>(
         → AreNumbers streams → result.0 ≢ Outcome.Memory }
     ensures home_at_fault { result.0 ≡ Outcome.WriteFault → result.1 ≡ 0 }
     ensures home_at_memory { result.0 ≡ Outcome.Memory → result.1 ≡ 0 }
-    ensures cause { result.0 ≡ Outcome.WriteFault → Rose (K.write_faults writer.entry.sink.now) (K.write_faults writer.exit.0.now) }
-    ensures later { K.write_faults writer.entry.sink.now ≤ K.write_faults writer.exit.0.now }
+    ensures cause { Blames (result.0 ≡ Outcome.WriteFault) (K.write_faults writer.entry.sink.now) (K.write_faults writer.exit.0.now) }
     ensures rest { K.rest writer.exit.0.now ≡ K.rest writer.entry.sink.now }
 {
     if ran_out(&settled) {

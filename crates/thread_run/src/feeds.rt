@@ -1,7 +1,7 @@
 //! The feeds of a recording by threads.
 
 ghost use Rattle.std.specs.Prelude.{◌≡◌, ◌≢◌, ◌+◌, ◌≤◌, ℕ, List, [], false, length, slice_get, Some, vec_capacity, IfOk, OnOk};
-ghost use Rattle.rec_base.specs.Causes.{Rose};
+ghost use Rattle.rec_base.specs.Causes.{Blames};
 ghost use Rattle.plan_model.specs.declared.plan.Mode.TheVariants.{Threads as ByThreads};
 ghost use Rattle.recording_model.specs.declared.stream.StreamDoc.{StreamDoc as StreamValue};
 ghost use Rattle.recording_model.specs.Recording.{AreStreams};
@@ -187,8 +187,7 @@ fn record_within<'s, E, S: Source + Send + Drop + 's, K: Sink, R: Threads + Wait
     ensures run { HaveRun S.left S.faults S.mark batch room.desk feeds (K.held sink.old) (K.held sink.new) result.0 }
     ensures home_at_fault { result.0 ≡ Outcome.WriteFault → result.1 ≡ 0 }
     ensures home_at_memory { result.0 ≡ Outcome.Memory → result.1 ≡ 0 }
-    ensures cause { result.0 ≡ Outcome.WriteFault → Rose (K.write_faults sink.old) (K.write_faults sink.new) }
-    ensures later { K.write_faults sink.old ≤ K.write_faults sink.new }
+    ensures cause { Blames (result.0 ≡ Outcome.WriteFault) (K.write_faults sink.old) (K.write_faults sink.new) }
     ensures rest { K.rest sink.new ≡ K.rest sink.old }
 {
     let FeedThreads {
@@ -294,8 +293,7 @@ impl<S: Source + Send + Drop> FeedThreads<S> {
             → AreNumbers streams → result.0 ≢ Outcome.Memory }
         ensures home_at_fault { result.0 ≡ Outcome.WriteFault → result.1 ≡ 0 }
         ensures home_at_memory { result.0 ≡ Outcome.Memory → result.1 ≡ 0 }
-        ensures cause { result.0 ≡ Outcome.WriteFault → Rose (K.write_faults sink.old) (K.write_faults sink.new) }
-        ensures later { K.write_faults sink.old ≤ K.write_faults sink.new }
+        ensures cause { Blames (result.0 ≡ Outcome.WriteFault) (K.write_faults sink.old) (K.write_faults sink.new) }
         ensures rest { K.rest sink.new ≡ K.rest sink.old }
     {
         let count = AtomicU64::new(0);
@@ -310,8 +308,7 @@ impl<S: Source + Send + Drop> FeedThreads<S> {
                 ensures run { HaveRun S.left S.faults S.mark batch room.desk feeds (K.held sink.entry.now) (K.held result.0.now) result.1.0 }
                 ensures home_at_fault { result.1.0 ≡ Outcome.WriteFault → result.1.1 ≡ 0 }
                 ensures home_at_memory { result.1.0 ≡ Outcome.Memory → result.1.1 ≡ 0 }
-                ensures cause { result.1.0 ≡ Outcome.WriteFault → Rose (K.write_faults sink.entry.now) (K.write_faults result.0.now) }
-                ensures later { K.write_faults sink.entry.now ≤ K.write_faults result.0.now }
+                ensures cause { Blames (result.1.0 ≡ Outcome.WriteFault) (K.write_faults sink.entry.now) (K.write_faults result.0.now) }
                 ensures rest { K.rest result.0.now ≡ K.rest sink.entry.now }
             {
                 let told = record_within(scope, rt, ended, feeds, sink, room, batch);

@@ -1,7 +1,7 @@
 //! The writer's side of a lane.
 
 ghost use Rattle.std.specs.Prelude.{◌≡◌, ◌<◌, ◌≤◌, ℕ, List, [], false, length, map, slice_get, Some, None, Option, IfOk, OnOk, OnErr, IsErrOf, IsTrue};
-ghost use Rattle.rec_base.specs.Causes.{Rose};
+ghost use Rattle.rec_base.specs.Causes.{Blames};
 ghost use Rattle.xdf_model.specs.Sample.{size_of};
 ghost use Rattle.ring_model.specs.Ring.{IsReached};
 ghost use Rattle.recording_model.specs.declared.stream.StreamDoc.{StreamDoc as StreamValue};
@@ -52,8 +52,7 @@ fn gather<K: Sink, R: Wait>(
         → StandsFor streams base (K.held writer.old.sink.now) writer.old.room.desk batches None
         → OnErr result ((some : List Batch) × IsCut streams base (K.held writer.new.sink.now) some × IsCutAt place head.old.taken head.new.taken batches some) }
     ensures memory { IsErrOf result WriterFault.Memory → 1 ≤ size_of head.old.lane.shape.format → ⊥ }
-    ensures cause { IsErrOf result WriterFault.WriteFault → Rose (K.write_faults writer.old.sink.now) (K.write_faults writer.new.sink.now) }
-    ensures later { K.write_faults writer.old.sink.now ≤ K.write_faults writer.new.sink.now }
+    ensures cause { Blames (IsErrOf result WriterFault.WriteFault) (K.write_faults writer.old.sink.now) (K.write_faults writer.new.sink.now) }
     ensures rest { K.rest writer.new.sink.now ≡ K.rest writer.old.sink.now }
 {
     for count in 0..batch {
@@ -90,8 +89,7 @@ pub(crate) fn write_some<K: Sink, R: Wait>(
         → StandsFor streams base (K.held writer.old.sink.now) writer.old.room.desk batches None
         → OnErr result ((some : List Batch) × IsCut streams base (K.held writer.new.sink.now) some × IsCutAt place lane.old.head.taken lane.new.head.taken batches some) }
     ensures memory { IsErrOf result WriterFault.Memory → 1 ≤ size_of lane.old.head.lane.shape.format → ⊥ }
-    ensures cause { IsErrOf result WriterFault.WriteFault → Rose (K.write_faults writer.old.sink.now) (K.write_faults writer.new.sink.now) }
-    ensures later { K.write_faults writer.old.sink.now ≤ K.write_faults writer.new.sink.now }
+    ensures cause { Blames (IsErrOf result WriterFault.WriteFault) (K.write_faults writer.old.sink.now) (K.write_faults writer.new.sink.now) }
     ensures rest { K.rest writer.new.sink.now ≡ K.rest writer.old.sink.now }
 {
     let count = gather(rt, &mut lane.head, writer, place, batch)?;
@@ -125,8 +123,7 @@ fn gather_rest<K: Sink, R: Wait>(
         → StandsFor streams base (K.held writer.old.sink.now) writer.old.room.desk batches None
         → OnErr result ((some : List Batch) × IsCut streams base (K.held writer.new.sink.now) some × IsCutAt place last.old.state.taken last.new.state.taken batches some) }
     ensures memory { IsErrOf result WriterFault.Memory → 1 ≤ size_of last.old.shape.format → ⊥ }
-    ensures cause { IsErrOf result WriterFault.WriteFault → Rose (K.write_faults writer.old.sink.now) (K.write_faults writer.new.sink.now) }
-    ensures later { K.write_faults writer.old.sink.now ≤ K.write_faults writer.new.sink.now }
+    ensures cause { Blames (IsErrOf result WriterFault.WriteFault) (K.write_faults writer.old.sink.now) (K.write_faults writer.new.sink.now) }
     ensures rest { K.rest writer.new.sink.now ≡ K.rest writer.old.sink.now }
 {
     for count in 0..batch {
@@ -163,8 +160,7 @@ fn write_more<K: Sink, R: Wait>(
         → StandsFor streams base (K.held writer.old.sink.now) writer.old.room.desk batches None
         → OnErr result ((some : List Batch) × IsCut streams base (K.held writer.new.sink.now) some × IsCutAt place lane.old.last.state.taken lane.new.last.state.taken batches some) }
     ensures memory { IsErrOf result WriterFault.Memory → 1 ≤ size_of lane.old.last.shape.format → ⊥ }
-    ensures cause { IsErrOf result WriterFault.WriteFault → Rose (K.write_faults writer.old.sink.now) (K.write_faults writer.new.sink.now) }
-    ensures later { K.write_faults writer.old.sink.now ≤ K.write_faults writer.new.sink.now }
+    ensures cause { Blames (IsErrOf result WriterFault.WriteFault) (K.write_faults writer.old.sink.now) (K.write_faults writer.new.sink.now) }
     ensures rest { K.rest writer.new.sink.now ≡ K.rest writer.old.sink.now }
 {
     let count = gather_rest(rt, &mut lane.last, writer, place, batch)?;
@@ -202,8 +198,7 @@ pub(crate) fn write_rest<K: Sink, R: Wait>(
         → StandsFor streams base (K.held writer.old.sink.now) writer.old.room.desk batches None
         → OnErr result ((some : List Batch) × IsCut streams base (K.held writer.new.sink.now) some × IsCutAt place lane.old.last.state.taken lane.new.last.state.taken batches some) }
     ensures memory { IsErrOf result WriterFault.Memory → 1 ≤ size_of lane.old.last.shape.format → ⊥ }
-    ensures cause { IsErrOf result WriterFault.WriteFault → Rose (K.write_faults writer.old.sink.now) (K.write_faults writer.new.sink.now) }
-    ensures later { K.write_faults writer.old.sink.now ≤ K.write_faults writer.new.sink.now }
+    ensures cause { Blames (IsErrOf result WriterFault.WriteFault) (K.write_faults writer.old.sink.now) (K.write_faults writer.new.sink.now) }
     ensures rest { K.rest writer.new.sink.now ≡ K.rest writer.old.sink.now }
 {
     for _ in rt.forever() {

@@ -1,7 +1,7 @@
 //! The writer's rounds over the lanes.
 
 ghost use Rattle.std.specs.Prelude.{◌≡◌, ◌≤◌, ◌<◌, ℕ, List, length, map, Option, OnOk, OnErr, IsErrOf};
-ghost use Rattle.rec_base.specs.Causes.{Rose};
+ghost use Rattle.rec_base.specs.Causes.{Blames};
 ghost use Rattle.recording_model.specs.declared.stream.StreamDoc.{StreamDoc as StreamValue};
 ghost use Rattle.recording_model.specs.Batch.{Batch};
 ghost use Rattle.thread_run.specs.Rounds.{AreDrawn, AreOfNumbers, IsCutOf, given_by, lanes_of};
@@ -34,8 +34,7 @@ pub(crate) fn go_round<K: Sink, R: Wait>(
     ensures cut { (streams : List StreamValue) (base : Option (List ℕ)) (batches : List Batch) → AreDrawn batch streams base (K.held writer.old.sink.now) writer.old.room.desk batches (map given_by heads.old)
         → OnErr result (IsCutOf streams base (K.held writer.new.sink.now) (map given_by heads.new)) }
     ensures memory { IsErrOf result WriterFault.Memory → AreOfNumbers (map given_by heads.old) → ⊥ }
-    ensures cause { IsErrOf result WriterFault.WriteFault → Rose (K.write_faults writer.old.sink.now) (K.write_faults writer.new.sink.now) }
-    ensures later { K.write_faults writer.old.sink.now ≤ K.write_faults writer.new.sink.now }
+    ensures cause { Blames (IsErrOf result WriterFault.WriteFault) (K.write_faults writer.old.sink.now) (K.write_faults writer.new.sink.now) }
     ensures rest { K.rest writer.new.sink.now ≡ K.rest writer.old.sink.now }
 {
     let mut most = 0;
@@ -97,8 +96,7 @@ pub(crate) fn go_until<K: Sink, R: Wait + Clock>(
     ensures cut { (streams : List StreamValue) (base : Option (List ℕ)) (batches : List Batch) → AreDrawn batch streams base (K.held writer.old.sink.now) writer.old.room.desk batches (map given_by heads.old)
         → OnErr result (IsCutOf streams base (K.held writer.new.sink.now) (map given_by heads.new)) }
     ensures memory { IsErrOf result WriterFault.Memory → AreOfNumbers (map given_by heads.old) → ⊥ }
-    ensures cause { IsErrOf result WriterFault.WriteFault → Rose (K.write_faults writer.old.sink.now) (K.write_faults writer.new.sink.now) }
-    ensures later { K.write_faults writer.old.sink.now ≤ K.write_faults writer.new.sink.now }
+    ensures cause { Blames (IsErrOf result WriterFault.WriteFault) (K.write_faults writer.old.sink.now) (K.write_faults writer.new.sink.now) }
     ensures rest { K.rest writer.new.sink.now ≡ K.rest writer.old.sink.now }
 {
     let mut pause = 0;

@@ -1,7 +1,7 @@
 //! All feeds of a recording, in threads of one scope.
 
 ghost use Rattle.std.specs.Prelude.{◌≡◌, ◌≤◌, ℕ, List, [], true, length, map, slice_get, Some, Option, vec_capacity, false, IfOk, OnOk, OnErr, IsErrOf};
-ghost use Rattle.rec_base.specs.Causes.{Rose};
+ghost use Rattle.rec_base.specs.Causes.{Blames};
 ghost use Rattle.recording_model.specs.declared.stream.StreamDoc.{StreamDoc as StreamValue};
 ghost use Rattle.recording_model.specs.Batch.{Batch};
 ghost use Rattle.run_model.specs.declared.feed.FeedSource.{FeedSource as FeedValue};
@@ -99,8 +99,7 @@ pub(crate) fn run_in<
     ensures cut { (streams : List StreamValue) (base : Option (List ℕ)) (batches : List Batch) → AreDrawn pace.batch streams base (K.held writer.old.sink.now) writer.old.room.desk batches (map given_by lanes.heads.items)
         → OnErr result (HaveCut S.left S.faults S.mark streams base (K.held writer.new.sink.now) lanes.works.items) }
     ensures memory { IsErrOf result WriterFault.Memory → AreOfNumbers (map given_by lanes.heads.items) → ⊥ }
-    ensures cause { IsErrOf result WriterFault.WriteFault → Rose (K.write_faults writer.old.sink.now) (K.write_faults writer.new.sink.now) }
-    ensures later { K.write_faults writer.old.sink.now ≤ K.write_faults writer.new.sink.now }
+    ensures cause { Blames (IsErrOf result WriterFault.WriteFault) (K.write_faults writer.old.sink.now) (K.write_faults writer.new.sink.now) }
     ensures rest { K.rest writer.new.sink.now ≡ K.rest writer.old.sink.now }
 {
     let RunRoom {
@@ -167,8 +166,7 @@ pub(crate) fn write_feeds<
         → OnErr result (IsCutOff S.left streams feeds (K.held writer.old.sink.now) (K.held writer.new.sink.now)) }
     ensures memory { (ring : ℕ) (streams : List StreamValue) (feeds : List (FeedValue S)) → AreThreadsFor ring pace.batch streams feeds writer.old.room.desk (record { works = lanes.works.items; heads = lanes.heads.items; raiser = lanes.raiser; lookers = lanes.lookers })
         → AreNumbers streams → IsErrOf result WriterFault.Memory → ⊥ }
-    ensures cause { IsErrOf result WriterFault.WriteFault → Rose (K.write_faults writer.old.sink.now) (K.write_faults writer.new.sink.now) }
-    ensures later { K.write_faults writer.old.sink.now ≤ K.write_faults writer.new.sink.now }
+    ensures cause { Blames (IsErrOf result WriterFault.WriteFault) (K.write_faults writer.old.sink.now) (K.write_faults writer.new.sink.now) }
     ensures rest { K.rest writer.new.sink.now ≡ K.rest writer.old.sink.now }
 {
     writer.begin()?;

@@ -3,7 +3,7 @@
 ghost use Rattle.std.specs.Prelude.{◌≡◌, ◌<◌, ◌≤◌, ℕ, List, false, length, map, slice_get, Some, None, Option, [], vec_capacity, OnOk, OnErr, IsErrOf};
 ghost use Rattle.xdf_model.specs.Sample.{size_of};
 ghost use Rattle.ring_model.specs.Ring.{IsReached};
-ghost use Rattle.rec_base.specs.Causes.{Rose};
+ghost use Rattle.rec_base.specs.Causes.{Blames};
 ghost use Rattle.recording_model.specs.declared.stream.StreamDoc.{StreamDoc as StreamValue};
 ghost use Rattle.recording_model.specs.Batch.{Batch};
 ghost use Rattle.loss_model.specs.Loss.{behind_last};
@@ -125,8 +125,7 @@ fn empty_one<S: Source + Drop, K: Sink, R: Wait>(
         → StandsFor streams base (K.held writer.old.sink.now) writer.old.room.desk batches None
         → OnErr result ((some : List Batch) × IsCut streams base (K.held writer.new.sink.now) some × IsCutAt place one.old.lane.last.state.taken one.new.lane.last.state.taken batches some) }
     ensures memory { IsErrOf result WriterFault.Memory → 1 ≤ size_of one.old.lane.last.shape.format → ⊥ }
-    ensures cause { IsErrOf result WriterFault.WriteFault → Rose (K.write_faults writer.old.sink.now) (K.write_faults writer.new.sink.now) }
-    ensures later { K.write_faults writer.old.sink.now ≤ K.write_faults writer.new.sink.now }
+    ensures cause { Blames (IsErrOf result WriterFault.WriteFault) (K.write_faults writer.old.sink.now) (K.write_faults writer.new.sink.now) }
     ensures rest { K.rest writer.new.sink.now ≡ K.rest writer.old.sink.now }
 {
     write_rest(rt, &mut one.lane, writer, place, batch)
@@ -154,8 +153,7 @@ pub(crate) fn empty_all<S: Source + Drop, K: Sink, R: Wait>(
     ensures cut { (streams : List StreamValue) (base : Option (List ℕ)) (batches : List Batch) → AreDrawn batch streams base (K.held writer.old.sink.now) writer.old.room.desk batches (map given_in joined.old)
         → OnErr result (IsCutOf streams base (K.held writer.new.sink.now) (map given_in joined.new)) }
     ensures memory { IsErrOf result WriterFault.Memory → AreOfNumbers (map given_in joined.old) → ⊥ }
-    ensures cause { IsErrOf result WriterFault.WriteFault → Rose (K.write_faults writer.old.sink.now) (K.write_faults writer.new.sink.now) }
-    ensures later { K.write_faults writer.old.sink.now ≤ K.write_faults writer.new.sink.now }
+    ensures cause { Blames (IsErrOf result WriterFault.WriteFault) (K.write_faults writer.old.sink.now) (K.write_faults writer.new.sink.now) }
     ensures rest { K.rest writer.new.sink.now ≡ K.rest writer.old.sink.now }
 {
     for place in 0..joined.len() {

@@ -6,6 +6,6 @@ pub loop-went-preserved : goal.loop-went-preserved
 loop-went-preserved g c = record {
   within = search rules;
   held = Appends-more _ _ _ c.args.bytes.now c.loop-went.went c.in-Ok.n c.loop-went.invariant.held c.in-Ok.ensures.held;
-  later = search rules;
+  quiet = search rules;
   rest = search rules;
 }

@@ -6,7 +6,7 @@ abbrev pub invariant-loop-went : goal.invariant-loop-went
 invariant-loop-went g l = record {
   within : l.went ≤ length l.bytes;
   held : Appends (g.K.Sink.held l.initial.sink) (g.K.Sink.held l.sink) (take l.went l.bytes);
-  later : g.K.Sink.write_faults l.initial.sink ≤ g.K.Sink.write_faults l.sink;
+  quiet : g.K.Sink.write_faults l.sink ≡ g.K.Sink.write_faults l.initial.sink;
   rest : g.K.Sink.rest l.sink ≡ g.K.Sink.rest l.initial.sink;
 }
 

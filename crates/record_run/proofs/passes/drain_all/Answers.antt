@@ -63,7 +63,7 @@ loop-place-preserved g c =
         | inr k ↦ subst (λ (n : ℕ). n ≤ x.ring.pushes) (sym (e.next_else q k)) (i.next q x (omega (arith, low, k)) before)
       ];
       low = λ q le. e.next_else q (λ h. omega (arith, h, le)) ∙ i.low q (omega (arith, le));
-      later = omega (arith, e.later, i.later);
+      quiet = e.cause.quiet (λ f. absurd (cc f)) ∙ i.quiet;
       rest = e.rest ∙ i.rest;
     }
 

@@ -20,6 +20,6 @@ invariant-loop-place g l = record {
       → StandsFor streams base (g.K.Sink.held l.writer.sink.now) l.writer.room.desk (batches ++ waiting_batches 0 (take l.place l.fn.inlets)) None;
   next : (p : ℕ) (x : InletView g.row.S.Denot) → p < l.place → slice_get l.fn.inlets p ≡ Some x → next_at l.writer.room.desk p ≤ x.ring.pushes;
   low : (p : ℕ) → l.place ≤ p → next_at l.writer.room.desk p ≡ next_at l.fn.writer.room.desk p;
-  later : g.K.Sink.write_faults l.fn.writer.sink.now ≤ g.K.Sink.write_faults l.writer.sink.now;
+  quiet : g.K.Sink.write_faults l.writer.sink.now ≡ g.K.Sink.write_faults l.fn.writer.sink.now;
   rest : g.K.Sink.rest l.writer.sink.now ≡ g.K.Sink.rest l.fn.writer.sink.now;
 }

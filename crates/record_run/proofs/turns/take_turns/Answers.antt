@@ -1,4 +1,4 @@
-use Rattle.std.proofs.Common.{◌≡◌, ◌+◌, ℕ, suc, List, [], refl, sym, ap, ◌∙◌, subst, arith}
+use Rattle.std.proofs.Common.{rules, ◌≡◌, ◌+◌, ℕ, suc, List, [], refl, sym, ap, ◌∙◌, subst, arith}
 use Rattle.xdf_model.specs.Sample.{Sample}
 use Rattle.turns_model.specs.Turns.{first_turns}
 use Rattle.record_writer.specs.Desk.{DeskState}
@@ -32,7 +32,7 @@ loop-init g c =
       closed = ap (λ (d : DeskState). d.count) same ∙ ready.count;
       whole = ap (λ (d : DeskState). d.broken) same ∙ ready.whole;
       waits = λ one. absurd (omega (arith, one));
-      later = e.later;
+      quiet = e.cause.quiet;
       rest = e.rest;
     }
 
@@ -113,7 +113,7 @@ loop-preserved g c =
       closed = e.closed;
       whole = e.whole;
       waits = λ one. c.have_ended.ensures.some c.if-have_ended.false;
-      later = omega (arith, e.later, inv.later);
+      quiet = e.cause.quiet (λ f. absurd (cc f)) ∙ inv.quiet;
       rest = e.rest ∙ inv.rest;
     }
 
@@ -142,3 +142,13 @@ returns-in_err-drain_all-clause-memory g c = λ ring streams feeds o numbers e.
     let before = numeric_turned L F M ring c.args.batch c.loop.counter streams feeds _ _ c.loop.writer.room.desk i.0 c.loop.inlets i.1 numbers in
     let after = numeric_filled L F M c.args.batch ring c.loop.counter streams feeds _ _ c.loop.writer.room.desk i.0 c.loop.inlets c.fill_all.new.inlets o.low o.some i.1 c.in_ok-fill_all.ensures.count f before in
     c.in_err-drain_all.ensures.memory (handed c.from_residual-in_err-drain_all.result c.in_err-drain_all.field-0.0 _ c.from_residual-in_err-drain_all.ensures.1 e) after
+
+pub returns-in_err-fill_all-clause-cause : goal.returns-in_err-fill_all-clause-cause
+returns-in_err-fill_all-clause-cause g c =
+    let kept = c.loop.invariant.quiet in
+    record { later = omega (arith, kept); rose = search rules; quiet = λ _. kept }
+
+pub returns-then-have_ended-clause-cause : goal.returns-then-have_ended-clause-cause
+returns-then-have_ended-clause-cause g c =
+    let kept = c.in_ok-drain_all.ensures.cause.quiet (λ f. absurd (cc f)) ∙ c.loop.invariant.quiet in
+    record { later = omega (arith, kept); rose = λ f. absurd (cc f); quiet = λ _. kept }

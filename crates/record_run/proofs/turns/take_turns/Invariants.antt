@@ -16,6 +16,6 @@ invariant-loop g l = record {
   closed : l.writer.room.desk.count ≡ 0;
   whole : l.writer.room.desk.broken ≡ false;
   waits : 1 ≤ l.counter → (p : ℕ) × (x : InletView g.row.S.Denot) × (slice_get l.inlets p ≡ Some x) × (x.end ≡ None);
-  later : g.K.Sink.write_faults l.fn.writer.sink.now ≤ g.K.Sink.write_faults l.writer.sink.now;
+  quiet : g.K.Sink.write_faults l.writer.sink.now ≡ g.K.Sink.write_faults l.fn.writer.sink.now;
   rest : g.K.Sink.rest l.writer.sink.now ≡ g.K.Sink.rest l.fn.writer.sink.now;
 }

@@ -55,17 +55,16 @@ returns-in-Err-clause-run g c =
     subst A after (subst A let_go (subst B before (subst V c.feeds.view_is (subst R c.over-writer.ensures.room run))))
 
 pub returns-in-Ok-clause-cause : goal.returns-in-Ok-clause-cause
-returns-in-Ok-clause-cause g c = λ is.
-    let rose = c.conclude.ensures.cause is in
+returns-in-Ok-clause-cause g c =
+    let ran = c.conclude.ensures.cause in
+    let wrote = c.write_feeds.ensures.cause.quiet (λ f. absurd (cc (f, c.in-Ok.is))) in
     let before = ap g.K.Sink.write_faults c.over-writer.ensures.sink in
     let after : g.K.Sink.write_faults c.conclude.new.writer.0 ≡ g.K.Sink.write_faults c.sink-1.given.0 = ap g.K.Sink.write_faults (sym (c.sink-1.given.1 (sym (c.write_feeds.ensures.same_reference ∙ c.over-writer.ensures.same_reference)))) in
-    omega (arith, rose, c.write_feeds.ensures.later, before, after)
-
-pub returns-in-Ok-clause-later : goal.returns-in-Ok-clause-later
-returns-in-Ok-clause-later g c =
-    let before = ap g.K.Sink.write_faults c.over-writer.ensures.sink in
-    let after : g.K.Sink.write_faults c.conclude.new.writer.0 ≡ g.K.Sink.write_faults c.sink-1.given.0 = ap g.K.Sink.write_faults (sym (c.sink-1.given.1 (sym (c.write_feeds.ensures.same_reference ∙ c.over-writer.ensures.same_reference)))) in
-    omega (arith, c.conclude.ensures.later, c.write_feeds.ensures.later, before, after)
+    record {
+      later = omega (arith, ran.later, wrote, before, after);
+      rose = λ is. omega (arith, ran.rose is, wrote, before, after);
+      quiet = λ other. sym after ∙ ran.quiet other ∙ wrote ∙ before;
+    }
 
 pub returns-in-Ok-clause-rest : goal.returns-in-Ok-clause-rest
 returns-in-Ok-clause-rest g c =
@@ -74,9 +73,13 @@ returns-in-Ok-clause-rest g c =
     sym after ∙ c.conclude.ensures.rest ∙ c.write_feeds.ensures.rest ∙ before
 
 pub returns-in-Err-clause-cause : goal.returns-in-Err-clause-cause
-returns-in-Err-clause-cause g c = λ is.
-    let rose = c.in-Err.ensures.cause (ap Err (told_fault c.in-Err.fault c.stopped_by.result c.stopped_by.ensures.memory is)) in
+returns-in-Err-clause-cause g c =
+    let wrote = c.in-Err.ensures.cause in
     let before = ap g.K.Sink.write_faults c.over-writer.ensures.sink in
     let gone = ap g.K.Sink.write_faults c.let_go.ensures in
     let after : g.K.Sink.write_faults c.let_go.new.writer.0 ≡ g.K.Sink.write_faults c.sink-in-Err-1.given.0 = search rules in
-    omega (arith, rose, before, gone, after)
+    record {
+      later = omega (arith, wrote.later, before, gone, after);
+      rose = λ is. let rose = wrote.rose (ap Err (told_fault c.in-Err.fault c.stopped_by.result c.stopped_by.ensures.memory is)) in omega (arith, rose, before, gone, after);
+      quiet = λ other. sym after ∙ gone ∙ wrote.quiet (λ f. other (c.stopped_by.ensures.write (cc f))) ∙ before;
+    }

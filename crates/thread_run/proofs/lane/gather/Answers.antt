@@ -1,4 +1,4 @@
-use Rattle.std.proofs.Common.{Bool, arith, ◌∙◌}
+use Rattle.std.proofs.Common.{Bool, ◌∙◌}
 use Rattle.std.proofs.Common.{subst}
 use Rattle.feed_lane.specs.Lanes.{IsPutOut}
 use Rattle.run_model.proofs.Batches.{open_of}
@@ -23,6 +23,6 @@ loop-count-preserved g c =
       gathered = gathered_more c.args.place c.loop-count.count c.args.head.now.taken c.loop-count.head.taken y.self.taken c.args.writer.now.room.desk c.loop-count.writer.room.desk y.writer.room.desk _ (g.K.Sink.held c.loop-count.writer.sink.now) _ o.0 i.gathered o.1 o.2;
       lane = p.same ∙ i.lane;
       same_reference = p.same_reference ∙ i.same_reference;
-      later = omega (arith, p.later, i.later);
+      quiet = p.cause.quiet (λ f. absurd (cc f)) ∙ i.quiet;
       rest = p.rest ∙ i.rest;
     }

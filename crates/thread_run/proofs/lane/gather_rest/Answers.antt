@@ -1,4 +1,4 @@
-use Rattle.std.proofs.Common.{Bool, arith, ◌∙◌, subst}
+use Rattle.std.proofs.Common.{Bool, ◌∙◌, subst}
 use Rattle.feed_lane.specs.Lanes.{IsLessBy}
 use Rattle.run_model.proofs.Batches.{open_of}
 use Rattle.run_model.proofs.Errors.{on_err}
@@ -24,6 +24,6 @@ loop-count-preserved g c =
       dropped = o.1.dropped ∙ i.dropped;
       reached = p.reached;
       same_reference = p.same_reference ∙ i.same_reference;
-      later = omega (arith, p.later, i.later);
+      quiet = p.cause.quiet (λ f. absurd (cc f)) ∙ i.quiet;
       rest = p.rest ∙ i.rest;
     }

@@ -1,4 +1,4 @@
-use Rattle.std.proofs.Common.{◌≡◌, ◌≤◌}
+use Rattle.std.proofs.Common.{◌≡◌}
 use Rattle.ring_model.specs.Ring.{IsReached}
 use Rattle.thread_run.specs.Lanes.{AreGathered, IsSameLane}
 use Rattle.thread_run.proofs.lane.gather_rest.Given as goal
@@ -10,6 +10,6 @@ invariant-loop-count g l = record {
   dropped : l.last.state.dropped ≡ l.fn.last.state.dropped;
   reached : IsReached l.last.capacity l.last.state;
   same_reference : l.writer.sink.ghost_name ≡ l.fn.writer.sink.ghost_name;
-  later : g.K.Sink.write_faults l.fn.writer.sink.now ≤ g.K.Sink.write_faults l.writer.sink.now;
+  quiet : g.K.Sink.write_faults l.writer.sink.now ≡ g.K.Sink.write_faults l.fn.writer.sink.now;
   rest : g.K.Sink.rest l.writer.sink.now ≡ g.K.Sink.rest l.fn.writer.sink.now;
 }

@@ -1,4 +1,4 @@
-use Rattle.std.proofs.Common.{refl, ◌++◌, ◌∙◌, arith}
+use Rattle.std.proofs.Common.{refl, ◌++◌, ◌∙◌}
 use Rattle.run_model.proofs.Errors.{on_err}
 use Rattle.thread_run.proofs.Gathering.{written_none, written_more, cut_over}
 use Rattle.thread_run.proofs.lane.write_rest.Goals as goal
@@ -11,7 +11,7 @@ loop-init g c = record {
   reached = c.requires.reached;
   counted = c.requires.counted;
   same_reference = refl;
-  later = omega arith;
+  quiet = refl;
   rest = refl;
 }
 
@@ -35,6 +35,6 @@ loop-preserved g c =
       reached = e.reached;
       counted = e.counted;
       same_reference = e.same_reference ∙ i.same_reference;
-      later = omega (arith, e.later, i.later);
+      quiet = e.cause.quiet (λ f. absurd (cc f)) ∙ i.quiet;
       rest = e.rest ∙ i.rest;
     }

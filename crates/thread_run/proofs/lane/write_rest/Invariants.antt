@@ -1,4 +1,4 @@
-use Rattle.std.proofs.Common.{◌≡◌, ◌≤◌}
+use Rattle.std.proofs.Common.{◌≡◌}
 use Rattle.ring_model.specs.Ring.{IsReached}
 use Rattle.thread_run.specs.Lanes.{IsSameLane, AreWritten, Counts}
 use Rattle.thread_run.proofs.lane.write_rest.Given as goal
@@ -11,6 +11,6 @@ invariant-loop g l = record {
   reached : IsReached l.lane.last.capacity l.lane.last.state;
   counted : Counts l.lane.kept l.lane.last.state.taken;
   same_reference : l.writer.sink.ghost_name ≡ l.fn.writer.sink.ghost_name;
-  later : g.K.Sink.write_faults l.fn.writer.sink.now ≤ g.K.Sink.write_faults l.writer.sink.now;
+  quiet : g.K.Sink.write_faults l.writer.sink.now ≡ g.K.Sink.write_faults l.fn.writer.sink.now;
   rest : g.K.Sink.rest l.writer.sink.now ≡ g.K.Sink.rest l.fn.writer.sink.now;
 }

@@ -69,7 +69,7 @@ loop-place-preserved g c =
       count = search rules;
       lanes = ends_same (λ (h : CountedHead). h.head.lane) c.loop-place.heads p c.index-heads-place.result c.write_some.new.lane e.same ∙ i.lanes;
       same_reference = e.same_reference ∙ i.same_reference;
-      later = omega (arith, e.later, i.later);
+      quiet = e.cause.quiet (λ f. absurd (cc f)) ∙ i.quiet;
       rest = e.rest ∙ i.rest;
     }
 

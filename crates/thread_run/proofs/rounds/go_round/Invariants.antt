@@ -1,4 +1,4 @@
-use Rattle.std.proofs.Common.{◌≡◌, ℕ, ◌≤◌, List, map, Option, length}
+use Rattle.std.proofs.Common.{◌≡◌, ℕ, List, map, Option, length}
 use Rattle.recording_model.specs.declared.stream.StreamDoc.{StreamDoc}
 use Rattle.recording_model.specs.Batch.{Batch}
 use Rattle.thread_run.specs.Rounds.{AreDrawn, given_by, lanes_of}
@@ -11,6 +11,6 @@ invariant-loop-place g l = record {
   count : length l.heads ≡ length l.fn.heads;
   lanes : lanes_of l.heads ≡ lanes_of l.fn.heads;
   same_reference : l.writer.sink.ghost_name ≡ l.fn.writer.sink.ghost_name;
-  later : g.K.Sink.write_faults l.fn.writer.sink.now ≤ g.K.Sink.write_faults l.writer.sink.now;
+  quiet : g.K.Sink.write_faults l.writer.sink.now ≡ g.K.Sink.write_faults l.fn.writer.sink.now;
   rest : g.K.Sink.rest l.writer.sink.now ≡ g.K.Sink.rest l.fn.writer.sink.now;
 }

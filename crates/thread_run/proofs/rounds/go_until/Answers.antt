@@ -1,4 +1,4 @@
-use Rattle.std.proofs.Common.{◌∙◌, arith}
+use Rattle.std.proofs.Common.{◌∙◌}
 use Rattle.run_model.proofs.Errors.{on_err, handed}
 use Rattle.thread_run.proofs.Going.{numbers_same}
 use Rattle.thread_run.proofs.rounds.go_until.Goals as goal
@@ -22,7 +22,7 @@ loop-preserved g c =
       drawn = λ streams base batches st. let k = i.drawn streams base batches st in e.drawn streams base k.0 k.1;
       lanes = e.lanes ∙ i.lanes;
       same_reference = e.same_reference ∙ i.same_reference;
-      later = omega (arith, e.later, i.later);
+      quiet = e.cause.quiet (λ f. absurd (cc f)) ∙ i.quiet;
       rest = e.rest ∙ i.rest;
     }
 

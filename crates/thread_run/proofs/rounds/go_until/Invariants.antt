@@ -1,4 +1,4 @@
-use Rattle.std.proofs.Common.{◌≡◌, ℕ, ◌≤◌, List, map, Option}
+use Rattle.std.proofs.Common.{◌≡◌, ℕ, List, map, Option}
 use Rattle.recording_model.specs.declared.stream.StreamDoc.{StreamDoc}
 use Rattle.recording_model.specs.Batch.{Batch}
 use Rattle.thread_run.specs.Rounds.{AreDrawn, given_by, lanes_of}
@@ -10,6 +10,6 @@ invariant-loop g l = record {
       → (more : List Batch) × AreDrawn l.batch streams base (g.K.Sink.held l.writer.sink.now) l.writer.room.desk more (map given_by l.heads);
   lanes : lanes_of l.heads ≡ lanes_of l.fn.heads;
   same_reference : l.writer.sink.ghost_name ≡ l.fn.writer.sink.ghost_name;
-  later : g.K.Sink.write_faults l.fn.writer.sink.now ≤ g.K.Sink.write_faults l.writer.sink.now;
+  quiet : g.K.Sink.write_faults l.writer.sink.now ≡ g.K.Sink.write_faults l.fn.writer.sink.now;
   rest : g.K.Sink.rest l.writer.sink.now ≡ g.K.Sink.rest l.fn.writer.sink.now;
 }

@@ -6,7 +6,7 @@ use Rattle.feed_lane.specs.Lanes.{Lane}
 use Rattle.recording_model.specs.Batch.{Batch}
 use Rattle.record_writer.specs.declared.fault.WriterFault.{WriterFault}
 use Rattle.record_writer.specs.declared.fault.WriterFault.TheVariants as fault
-use Rattle.run_model.proofs.Errors.{on_err, handed}
+use Rattle.run_model.proofs.Errors.{on_err, handed, handed_back}
 use Rattle.run_model.proofs.Lists.{item_at}
 use Rattle.thread_run.specs.declared.lane.CountedHead.{CountedHead}
 use Rattle.thread_run.specs.declared.settle.Joined.{Joined}
@@ -165,9 +165,16 @@ returns-in_err-empty_all-clause-memory g c = λ is numbers.
     (subst (λ (l : List (Joined _)). AreOfNumbers (map given_in l)) (sym c.as_mut_slice-2.ensures.value) few)
 
 pub returns-in_err-empty_all-clause-cause : goal.returns-in_err-empty_all-clause-cause
-returns-in_err-empty_all-clause-cause g c = λ is.
-    let rose = c.in_err-empty_all.ensures.cause (handed c.from_residual-in_err-empty_all.result c.in_err-empty_all.field-0.0 _ c.from_residual-in_err-empty_all.ensures.1 is) in
-    omega (arith, rose, c.go_until-outcome.ensures.later)
+returns-in_err-empty_all-clause-cause g c =
+    let went = c.go_until-outcome.ensures.cause.quiet (λ is. no_error c.go_until-outcome.result c.in_ok-outcome.field-0 fault.WriteFault c.in_ok-outcome.was is) in
+    let wrote = c.in_err-empty_all.ensures.cause in
+    record {
+      later = omega (arith, wrote.later, went);
+      rose = λ is.
+          let rose = wrote.rose (handed c.from_residual-in_err-empty_all.result c.in_err-empty_all.field-0.0 _ c.from_residual-in_err-empty_all.ensures.1 is) in
+          omega (arith, rose, went);
+      quiet = λ other. wrote.quiet (λ f. other (handed_back c.from_residual-in_err-empty_all.result c.in_err-empty_all.field-0.0 _ c.from_residual-in_err-empty_all.ensures.1 f)) ∙ went;
+    }
 
 pub returns-clause-settled : goal.returns-clause-settled
 returns-clause-settled g c = λ streams base batches st.
@@ -232,3 +239,19 @@ returns-clause-going g c =
     let joined = c.join_all-joined.ensures.count in
     subst (λ (l : List (Joined _)). NoneHalted l) (sym (written_back c.join_all-joined.result.len new all (search rules) long))
     (going_on L F M works worked now all are joined same met new long stays (none_halted L F M works worked now all are joined same met unseen))
+
+pub returns-in_err-outcome-clause-cause : goal.returns-in_err-outcome-clause-cause
+returns-in_err-outcome-clause-cause g c =
+    let E : Result _ WriterFault → Type 0 = λ r. IsErrOf r fault.WriteFault in
+    let went = c.go_until-outcome.ensures.cause in
+    record {
+      later = went.later;
+      rose = λ is. went.rose (subst E (sym c.in_err-outcome.was) (handed c.from_residual.result c.in_err-outcome.field-0.0 _ c.from_residual.ensures.1 is));
+      quiet = λ other. went.quiet (λ f. other (handed_back c.from_residual.result c.in_err-outcome.field-0.0 _ c.from_residual.ensures.1 (subst E c.in_err-outcome.was f)));
+    }
+
+pub returns-clause-cause : goal.returns-clause-cause
+returns-clause-cause g c =
+    let went = c.go_until-outcome.ensures.cause.quiet (λ is. no_error c.go_until-outcome.result c.in_ok-outcome.field-0 fault.WriteFault c.in_ok-outcome.was is) in
+    let kept = c.in_ok-empty_all.ensures.cause.quiet (λ f. absurd (cc f)) ∙ went in
+    record { later = omega (arith, kept); rose = λ f. absurd (cc f); quiet = λ _. kept }

@@ -19,7 +19,7 @@ loop-place-init g c = record {
   same = feed_same c.args.joined.now c.requires.reached;
   empty = λ p after low e. absurd (omega (arith, low));
   same_reference = refl;
-  later = omega arith;
+  quiet = refl;
   rest = refl;
 }
 
@@ -130,7 +130,7 @@ loop-place-preserved g c =
         | inr k ↦ i.empty q after (omega (arith, low, k.0)) k.1
       ];
       same_reference = e.same_reference ∙ i.same_reference;
-      later = omega (arith, e.later, i.later);
+      quiet = e.cause.quiet (λ f. absurd (cc f)) ∙ i.quiet;
       rest = e.rest ∙ i.rest;
     }
 

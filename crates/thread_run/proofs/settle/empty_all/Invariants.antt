@@ -1,4 +1,4 @@
-use Rattle.std.proofs.Common.{◌≡◌, ℕ, ◌<◌, ◌≤◌, List, [], Option, length, map, slice_get, Some}
+use Rattle.std.proofs.Common.{◌≡◌, ℕ, ◌<◌, List, [], Option, length, map, slice_get, Some}
 use Rattle.recording_model.specs.declared.stream.StreamDoc.{StreamDoc}
 use Rattle.recording_model.specs.Batch.{Batch}
 use Rattle.thread_run.specs.declared.settle.Joined.{Joined}
@@ -14,6 +14,6 @@ invariant-loop-place g l = record {
   same : (p : ℕ) (before after : Joined g.row.S.Denot) → slice_get l.fn.joined p ≡ Some before → slice_get l.joined p ≡ Some after → IsSameFeed before after × (after.lane.last.state.dropped ≡ before.lane.last.state.dropped);
   empty : (p : ℕ) (after : Joined g.row.S.Denot) → p < l.place → slice_get l.joined p ≡ Some after → after.lane.last.state.queue ≡ [];
   same_reference : l.writer.sink.ghost_name ≡ l.fn.writer.sink.ghost_name;
-  later : g.K.Sink.write_faults l.fn.writer.sink.now ≤ g.K.Sink.write_faults l.writer.sink.now;
+  quiet : g.K.Sink.write_faults l.writer.sink.now ≡ g.K.Sink.write_faults l.fn.writer.sink.now;
   rest : g.K.Sink.rest l.writer.sink.now ≡ g.K.Sink.rest l.fn.writer.sink.now;
 }

@@ -1,8 +1,9 @@
-use Rattle.std.proofs.Common.{List, [], ◌∷◌, length, length-append, sym, ap, ◌∙◌, subst, arith}
+use Rattle.std.proofs.Common.{◌≡◌, List, [], ◌∷◌, length, length-append, sym, ap, ◌∙◌, subst, arith}
 use Rattle.piece_reader.proofs.Ending.{ends_so}
 use Rattle.xdf_model.specs.Sample.{Sample}
 use Rattle.reading_model.specs.Outlook.{Answered}
 use Rattle.reading_model.specs.Read.{IsRead}
+use Rattle.inlet_model.specs.declared.end.FeedEnd.TheVariants.{ReadFault}
 use Rattle.inlet_model.specs.Inlet.{feed_kind}
 use Rattle.feed_samples.specs.declared.step.FeedStep.{FeedStep}
 use Rattle.feed_samples.specs.Inlet.{got, outlook}
@@ -21,7 +22,7 @@ loop-preserved g c =
     record {
       begun = begun_sample r (outlook c.loop.reader.inlet) (outlook new.inlet) (L c.args.reader.now.source) (L c.loop.reader.source) (L new.source) c.loop.tail c.take_from.new.self n.put.0 i.begun n.put.2 n.put.1;
       marked = n.marked ∙ i.marked;
-      later = omega (arith, n.later, i.later);
+      quiet = n.cause.quiet (λ h. absurd (cc h.1)) ∙ i.quiet;
       shape = n.same_shape.0 ∙ i.shape;
       limit = n.same_shape.1 ∙ i.limit;
       received = received_sample c.loop.tail c.take_from.new.self n.put.0 c.loop.reader.inlet.received new.inlet.received n.put.1 i.received n.put.4;
@@ -43,11 +44,12 @@ returns-in-End-clause-put g c =
     let e = ends_so feed_kind r (outlook c.loop.reader.inlet) (outlook new.inlet) (L c.args.reader.now.source) (L c.loop.reader.source) (L new.source) c.loop.tail.puts c.in-End.end i.begun answered in
     subst (λ (l : List Sample). IsRead L g.S.Source.faults g.S.Source.mark feed_kind r c.args.reader.now.source new.source l c.in-End.end) (sym met.1) (record {
       marked = n.marked ∙ i.marked;
-      later = omega (arith, n.later, i.later);
+      later = omega (arith, n.cause.later, i.quiet);
       taken = e.0;
       lost = e.1;
       ends = e.2;
-      cause = λ is. let rose = n.cause i.begun.goes (ap lane.End (fault_alone c.in-End.end is)) in omega (arith, rose, i.later);
+      cause = λ is. let rose = n.cause.rose (i.begun.goes, ap lane.End (fault_alone c.in-End.end is)) in omega (arith, rose, i.quiet);
+      quiet = λ whole. n.cause.quiet (λ h. whole (let same : c.in-End.end ≡ ReadFault = cc h.1 in ap feed_kind same)) ∙ i.quiet;
     })
 
 pub returns-in-Memory-clause-put : goal.returns-in-Memory-clause-put

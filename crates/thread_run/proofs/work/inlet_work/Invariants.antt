@@ -8,7 +8,7 @@ abbrev pub invariant-loop : goal.invariant-loop
 invariant-loop g l = record {
   begun : Begun (fresh (outlook l.fn.reader.inlet).coming) (outlook l.reader.inlet) (g.S.Source.left l.fn.reader.source) (g.S.Source.left l.reader.source) l.tail.puts;
   marked : g.S.Source.mark l.reader.source ≡ g.S.Source.mark l.fn.reader.source;
-  later : g.S.Source.faults l.fn.reader.source ≤ g.S.Source.faults l.reader.source;
+  quiet : g.S.Source.faults l.reader.source ≡ g.S.Source.faults l.fn.reader.source;
   shape : l.reader.inlet.shape ≡ l.fn.reader.inlet.shape;
   limit : l.reader.inlet.byte_limit ≡ l.fn.reader.inlet.byte_limit;
   received : l.reader.inlet.received ≡ length l.tail.puts;

@@ -28,7 +28,7 @@ entries-init g c =
       reads = c.self.invariant.1;
       draining = subst P (sym c.self.view_is) (draining_none c.args.place c.args.self.now w.room.desk (g.K.Sink.held w.sink.now) c.args.self.now.inlet.shape c.requires.shape c.requires.waiting c.requires.closed c.requires.whole);
       same_reference = refl;
-      later = omega arith;
+      quiet = refl;
       rest = refl;
     }
 
@@ -85,7 +85,7 @@ entries-preserved g c =
       draining = draining_more c.args.place c.args.self.now _ _ c.args.writer.now.room.desk c.entries.writer.room.desk y.writer.room.desk _ (g.K.Sink.held c.entries.writer.sink.now) _ o.0 i.draining t
           (record { id = refl; source = refl; inlet = refl; end = refl; drops = refl; pushes = t.pushes; capacity = t.capacity }) o.2;
       same_reference = p.same_reference ∙ i.same_reference;
-      later = omega (arith, p.later, i.later);
+      quiet = c.in_ok-put_oldest.ensures.cause.quiet (λ f. absurd (cc f)) ∙ i.quiet;
       rest = p.rest ∙ i.rest;
     }
 

@@ -1,4 +1,4 @@
-use Rattle.std.proofs.Common.{◌≡◌, ◌≤◌, length}
+use Rattle.std.proofs.Common.{◌≡◌, length}
 use Rattle.record_run.specs.Inlets.{InletView, IsKept}
 use Rattle.record_run.proofs.Draining.{Draining}
 use Rattle.record_run.proofs.inlet.Inlet.drain.Given as goal
@@ -13,7 +13,7 @@ invariant-entries g l =
       reads : x.ring.shape ≡ x.reader.inlet.shape;
       draining : Draining l.place l.fn.self now l.fn.writer.room.desk l.writer.room.desk (g.K.Sink.held l.fn.writer.sink.now) (g.K.Sink.held l.writer.sink.now);
       same_reference : l.writer.sink.ghost_name ≡ l.fn.writer.sink.ghost_name;
-      later : g.K.Sink.write_faults l.fn.writer.sink.now ≤ g.K.Sink.write_faults l.writer.sink.now;
+      quiet : g.K.Sink.write_faults l.writer.sink.now ≡ g.K.Sink.write_faults l.fn.writer.sink.now;
       rest : g.K.Sink.rest l.writer.sink.now ≡ g.K.Sink.rest l.fn.writer.sink.now;
     }
 

@@ -53,7 +53,7 @@ loop-preserved g c =
         fits = one.fits;
         shape = n.same_shape.0;
         marked = n.marked;
-        later = n.later;
+        quiet = n.cause.quiet (λ h. absurd (cc h.1));
         id = refl;
         push = one.push;
         drops = ap (λ (d : ℕ). x.drops + d) one.drops_is;
@@ -75,10 +75,9 @@ returns-in-End-clause-filled g c =
     (i.filling empty)
     (record {
       answer = e.1;
-      cause = λ goes is. n.cause goes (ap given.End is);
+      cause = record { later = n.cause.later; rose = λ k. n.cause.rose (k.0, ap given.End k.1); quiet = λ other. n.cause.quiet (λ k. other (k.0, cc k.1)) };
       shape = n.same_shape.0;
       marked = n.marked;
-      later = n.later;
       id = refl;
       ring = e.0;
       drops = refl;
