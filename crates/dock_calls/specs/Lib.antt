@@ -1,3 +1,4 @@
+pub mod Asking
 pub mod Inputs
 pub mod Places
 pub mod Said

@@ -1,7 +1,7 @@
 -- The places of inputs among those that have one name. This project's own.
 use Rattle.std.specs.Prelude.{◌≡◌, ℕ, List, drop, count_by, ⊤, Option, None, Some}
 use Rattle.rec_base.specs.declared.name.Name.{Name}
-use Rattle.rec_base.specs.Contents.{Contents, IsInput, IsOpened}
+use Rattle.rec_base.specs.Contents.{Contents, Given, IsInput, IsOpened}
 use Rattle.rec_base.specs.Files.{same_name}
 
 -- how many of the inputs that were opened before have this name
@@ -17,11 +17,11 @@ IsInputAt contents names name text = IsInput contents name (place_of names name)
 abbrev pub IsOpenedAt : Option Contents → List Name → Name → Option (List ℕ) → Type 0
 IsOpenedAt contents names name left = IsOpened contents name (place_of names name) left
 
--- what contents are left once these names were opened
-abbrev pub IsLeft : Option Contents → Option Contents → List Name → Type 0
+-- what texts or marks are left once these names were opened
+abbrev pub IsLeft : {A : Type 0} → Option (Given A) → Option (Given A) → List Name → Type 0
 IsLeft None after names = ⊤
 IsLeft (Some f) None names = ⊥
 IsLeft (Some f) (Some g) names = (name : Name) → g name ≡ drop (place_of names name) (f name)
 
-pub record IsAfter (contents left : Option Contents) (names : List Name) : Type 0 where
-  pub rest : IsLeft contents left names
+pub record IsAfter {A : Type 0} (given left : Option (Given A)) (names : List Name) : Type 0 where
+  pub rest : IsLeft given left names

@@ -1,10 +1,11 @@
 //! An input that is read whole.
 
-ghost use Rattle.std.specs.Prelude.{◌≡◌, ◌≤◌, ◌<◌, ◌⊎◌, List, ℕ, length, Some, IfOk, OnErr, IsErrOf};
-ghost use Rattle.rec_base.specs.Causes.{Rose};
-ghost use Rattle.rec_base.specs.Contents.{Opens, IsInput, IsOpened};
-ghost use Rattle.rec_base.specs.Moved.{HasFailed};
+ghost use Rattle.std.specs.Prelude.{◌≡◌, ◌≤◌, ◌<◌, ◌⊎◌, ◌∷◌, [], List, ℕ, length, Some, IfOk, OnOk, OnErr, IsErrOf};
+ghost use Rattle.rec_base.specs.Asked.{AsksAll, AsksFront};
+ghost use Rattle.rec_base.specs.Contents.{Opens, OpensMarked, IsInput};
+ghost use Rattle.rec_base.specs.declared.asked.Asked.TheVariants.{Opening};
 ghost use Rattle.rec_base.specs.declared.name.Name.{Name as NameValue};
+ghost use Rattle.dock_calls.specs.Asking.{FailsAt, HasReadFault};
 ghost use Rattle.dock_calls.specs.Inputs.{KeepsOthers};
 
 use crate::fault::InputFault;
@@ -24,12 +25,14 @@ pub fn read_input<D: Dock>(
 ) -> Result<Blob, InputFault>
     ensures text { IfOk result (λ text. Opens (D.contents dock.old) (D.contents dock.new) (NameValue.File name.now) (Some text) × (length text ≤ limit)) }
     ensures too_long { IsErrOf result InputFault.TooLong → (text : List ℕ) × IsInput (D.contents dock.old) (NameValue.File name.now) 0 text × (limit < length text) }
-    ensures failed { IsErrOf result InputFault.Open → Rose (D.open_faults dock.old) (D.open_faults dock.new)
-        ⊎ ((first : D.Source) × (last : D.Source) × IsOpened (D.contents dock.old) (NameValue.File name.now) 0 (D.Source.left first)
-        × HasFailed D.Source.left D.Source.faults D.Source.mark first last) }
+    ensures failed { IsErrOf result InputFault.Open → FailsAt (D.asked dock.old) (D.asked dock.new) (Opening (NameValue.File name.now) ∷ []) (D.open_faults dock.old) (D.open_faults dock.new)
+        ⊎ HasReadFault D.Source.left D.Source.faults D.Source.mark D.input_mark (D.contents dock.old) (D.marks dock.old) (NameValue.File name.now) 0 }
     ensures none_else { OnErr result (IsErrOf result InputFault.TooLong ⊎ IsErrOf result InputFault.Open ⊎ IsErrOf result InputFault.Memory) }
     ensures others { KeepsOthers (D.contents dock.old) (D.contents dock.new) (NameValue.File name.now) }
-    ensures later { D.open_faults dock.old ≤ D.open_faults dock.new }
+    ensures marked { OnOk result ((source : D.Source) × OpensMarked (D.marks dock.old) (D.marks dock.new) (NameValue.File name.now) (D.input_mark source)) }
+    ensures asks { AsksFront (D.asked dock.old) (D.asked dock.new) (Opening (NameValue.File name.now) ∷ []) }
+    ensures asked { (IsErrOf result InputFault.Memory → ⊥) → AsksAll (D.asked dock.old) (D.asked dock.new) (Opening (NameValue.File name.now) ∷ []) }
+    ensures quiet { (IsErrOf result InputFault.Open → ⊥) → D.open_faults dock.new ≡ D.open_faults dock.old }
     ensures target { D.target dock.new ≡ D.target dock.old }
     ensures held { D.held dock.new ≡ D.held dock.old }
     ensures printed { D.printed dock.new ≡ D.printed dock.old }

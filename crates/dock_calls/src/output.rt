@@ -3,7 +3,7 @@
 ghost use Rattle.std.specs.Prelude.{◌≡◌, ◌≤◌, ◌++◌, ◌∷◌, OnOk, OnErr, IsTrue, codes};
 ghost use Rattle.std.specs.Fmt.{decimal};
 ghost use Rattle.std.specs.Io.KnownBytes.{Appends};
-ghost use Rattle.rec_base.specs.Causes.{Rose};
+ghost use Rattle.rec_base.specs.Causes.{HasCause};
 ghost use Rattle.rec_base.specs.Known.{AppendsFront, printed_line};
 ghost use Rattle.dock_calls.specs.Said.{SaysFault, is_usage};
 
@@ -13,14 +13,9 @@ use rec_base::{Dock, Failed, Lines, Sink};
 /// This project's own.
 pub fn say_line<D: Dock>(dock: &mut D, line: &str) -> Result<(), Failed>
     ensures ok { OnOk result (Appends (D.printed dock.old) (D.printed dock.new) (printed_line line.now)) }
-    ensures err { OnErr result (AppendsFront (D.printed dock.old) (D.printed dock.new) (printed_line line.now)
-        × Rose (D.print_faults dock.old) (D.print_faults dock.new)) }
-    ensures later { D.print_faults dock.old ≤ D.print_faults dock.new }
-    ensures target { D.target dock.new ≡ D.target dock.old }
-    ensures held { D.held dock.new ≡ D.held dock.old }
-    ensures contents { D.contents dock.new ≡ D.contents dock.old }
-    ensures open_faults { D.open_faults dock.new ≡ D.open_faults dock.old }
-    ensures write_faults { D.write_faults dock.new ≡ D.write_faults dock.old }
+    ensures err { OnErr result (AppendsFront (D.printed dock.old) (D.printed dock.new) (printed_line line.now)) }
+    ensures cause { HasCause (D.print_faults dock.old) (D.print_faults dock.new) result }
+    ensures rest { D.Lines.rest dock.new ≡ D.Lines.rest dock.old }
 {
     dock.say(line)
 }
@@ -45,11 +40,7 @@ pub fn usage_line(why: u8) -> &'static str
 pub fn say_fault<D: Dock>(dock: &mut D, line: &str)
     ensures line { SaysFault (D.printed dock.old) (D.printed dock.new) (D.print_faults dock.old) (D.print_faults dock.new) line.now }
     ensures later { D.print_faults dock.old ≤ D.print_faults dock.new }
-    ensures target { D.target dock.new ≡ D.target dock.old }
-    ensures held { D.held dock.new ≡ D.held dock.old }
-    ensures contents { D.contents dock.new ≡ D.contents dock.old }
-    ensures open_faults { D.open_faults dock.new ≡ D.open_faults dock.old }
-    ensures write_faults { D.write_faults dock.new ≡ D.write_faults dock.old }
+    ensures rest { D.Lines.rest dock.new ≡ D.Lines.rest dock.old }
 {
     let _ = say_line(dock, line);
 }

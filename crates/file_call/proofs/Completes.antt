@@ -3,8 +3,8 @@ use Rattle.std.proofs.Common.{◌≡◌, ◌≢◌, ℕ, zero, suc, ◌≤◌, �
 use Rattle.std.proofs.lemmas.Bool.Decides.{nat_tests}
 use Rattle.std.specs.Prelude.{slice_get, IsTrue, ◌⊎◌}
 use Rattle.rec_base.specs.Causes.{Rose}
-use Rattle.rec_base.specs.Contents.{Contents, IsOpened}
-use Rattle.rec_base.specs.Moved.{HasFailed}
+use Rattle.rec_base.specs.Contents.{Contents, Given}
+use Rattle.dock_calls.specs.Asking.{HasReadFault}
 use Rattle.rec_base.specs.declared.name.Name.TheVariants.{File}
 use Rattle.chunk_grammar.specs.Chunk.{magic}
 use Rattle.file_call.specs.Files.{IsToldOther}
@@ -36,16 +36,16 @@ not_long contents texts name text told there within long =
     let size : length k.0 ≡ length text = ap length is in
     omega (arith, k.2, size, within)
 
-module _ {S M : Type 0} (left_of : S → Option (List ℕ)) (faults_of : S → ℕ) (mark_of : S → M) (contents : Option Contents) (name : List ℕ) (opens opens' writes writes' says says' : ℕ) where
+module _ {S M I : Type 0} (left_of : S → Option (List ℕ)) (faults_of : S → ℕ) (mark_of : S → M) (input_mark_of : S → I) (contents : Option Contents) (marks : Option (Given I)) (name : List ℕ) (opens opens' writes writes' says says' : ℕ) where
   pub completes : (n : ℕ) → IsTrue (is_repair_status n) → (n ≡ 3 → IsToldOther contents name)
-      → (n ≡ 4 → Rose opens opens' ⊎ ((first : S) × (last : S) × IsOpened contents (File name) 0 (left_of first) × HasFailed left_of faults_of mark_of first last))
+      → (n ≡ 4 → Rose opens opens' ⊎ HasReadFault left_of faults_of mark_of input_mark_of contents marks (File name) 0)
       → (n ≡ 5 → Rose writes writes') → (n ≡ 7 → IsToldLong contents name) → (n ≡ 8 → Rose says says')
-      → CompletesRepair left_of faults_of mark_of contents name opens opens' writes writes' says says' n
+      → CompletesRepair left_of faults_of mark_of input_mark_of contents marks name opens opens' writes writes' says says' n
   completes n status three four five seven eight = λ texts rest told there within none.
       by_status n status (λ e. no_other contents texts name rest told there (three e)) (λ e. by_read none (four e)) (λ e. none.writing (five e))
       (λ e. not_long contents texts name (magic ++ rest) told there within (seven e)) (λ e. none.saying (eight e))
     where
-      by_read : NoneFailed left_of faults_of mark_of contents name opens opens' writes writes' says says'
-          → Rose opens opens' ⊎ ((first : S) × (last : S) × IsOpened contents (File name) 0 (left_of first) × HasFailed left_of faults_of mark_of first last) → ⊥
+      by_read : NoneFailed left_of faults_of mark_of input_mark_of contents marks name opens opens' writes writes' says says'
+          → Rose opens opens' ⊎ HasReadFault left_of faults_of mark_of input_mark_of contents marks (File name) 0 → ⊥
       by_read none (inl rose) = none.opening rose
-      by_read none (inr k) = none.reading k.0 k.1 k.2 k.3
+      by_read none (inr k) = none.reading k

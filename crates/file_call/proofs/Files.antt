@@ -4,7 +4,11 @@ use Rattle.std.specs.Prelude.{slice_get, ◌⊎◌}
 use Rattle.std.proofs.lemmas.List.{append-nil, length-append}
 use Rattle.std.specs.Io.KnownBytes.{Consumes, IsAtEnd}
 use Rattle.std.proofs.KnownBytes.{Consumes-trans}
-use Rattle.rec_base.specs.Contents.{Contents, IsOpened}
+use Rattle.rec_base.specs.Causes.{Rose}
+use Rattle.rec_base.specs.Contents.{Contents, Given, IsMarked, IsOpened}
+use Rattle.rec_base.specs.Known.{Loses}
+use Rattle.rec_base.proofs.Taken.{Loses-more}
+use Rattle.dock_calls.specs.Asking.{HasReadFault}
 use Rattle.rec_base.specs.declared.name.Name.TheVariants.{File}
 use Rattle.reading_model.specs.Outlook.{How, ended, failed, Kind, final, at_end, at_fault, at_limit}
 use Rattle.reading_model.specs.Read.{Reader, EndsSo, IsRead, IsReadingOf}
@@ -15,7 +19,7 @@ use Rattle.file_model.specs.Reader.{ChunkAt, file_counted, file_kind}
 use Rattle.file_reader.specs.FileInlet.{FileInlet, IsNotXdf, outlook}
 use Rattle.report_model.specs.Check.{AreFirstCheckLines, check_lines}
 use Rattle.report_model.specs.Shown.{show_lines, AreFirstLines}
-use Rattle.file_call.specs.Files.{chunk_limit, file_chunks, FirstLines, IsBegun, IsTold, IsFileOf, IsFileFrom, IsOtherFile, IsToldOther}
+use Rattle.file_call.specs.Files.{chunk_limit, file_chunks, FirstLines, IsBegun, IsEntered, IsTold, IsFileOf, IsFileFrom, IsOtherFile, IsToldOther}
 
 -- what comes behind the magic
 behind : (taken : List ℕ) (how : How) → file_chunks (magic ++ taken) how ≡ file_counted chunk_limit taken how
@@ -68,11 +72,12 @@ module _ {S M : Type 0} {left_of : S → Option (List ℕ)} {faults_of : S → �
         opened = begun.entered.opened;
         read = record {
           marked = read.marked ∙ begun.entered.marked;
-          later = omega (arith, begun.entered.later, read.later);
+          later = omega (arith, begun.entered.quiet, read.later);
           taken = magic ++ read.taken;
           lost = lost;
           ends = ends;
-          cause = λ is. omega (arith, begun.entered.later, read.cause is);
+          cause = λ is. omega (arith, begun.entered.quiet, read.cause is);
+          quiet = λ whole. read.quiet whole ∙ begun.entered.quiet;
         };
         rest = read.taken;
         begins = refl;
@@ -94,6 +99,25 @@ module _ {S M : Type 0} {left_of : S → Option (List ℕ)} {faults_of : S → �
 
   pub checked_from : (taken : List ℕ) (lines : List (List ℕ)) → Consumes (left_of source) (left_of last) taken → AreFirstCheckLines (outlook file).coming taken lines → IsFileFrom AreFirstCheckLines left_of contents name lines
   checked_from taken lines lost lines_first = file_from AreFirstCheckLines taken lines lost (check_first (outlook file).coming begun.all taken lines lines_first)
+
+-- a read failed of a file that was opened, and of which the magic was taken
+pub read_failed : {S M I : Type 0} {left_of : S → Option (List ℕ)} {faults_of : S → ℕ} {mark_of : S → M} (input_mark_of : S → I) {contents : Option Contents} (marks : Option (Given I)) {name : List ℕ} {source : S}
+    (keeps : (a b : S) → mark_of b ≡ mark_of a → input_mark_of b ≡ input_mark_of a) (entered : IsEntered left_of faults_of mark_of contents name source) → IsMarked marks (File name) 0 (input_mark_of source)
+    → (last : S) → mark_of last ≡ mark_of source → Rose (faults_of source) (faults_of last) → Loses (left_of source) (left_of last)
+    → HasReadFault left_of faults_of mark_of input_mark_of contents marks (File name) 0
+read_failed {left_of = left_of} {faults_of = faults_of} input_mark_of marks {name = name} {source = source} keeps entered marked last same rose loses =
+    let P : _ → Type 0 = λ i. IsMarked marks (File name) 0 i in
+    record {
+      first = entered.first;
+      last = last;
+      source = entered.opened;
+      marked = subst P (keeps entered.first source entered.marked) marked;
+      failed = record {
+        marked = same ∙ entered.marked;
+        rose = omega (arith, entered.quiet, rose);
+        taken = Loses-more (left_of entered.first) (left_of source) (left_of last) magic entered.lost loses;
+      };
+    }
 
 -- ---- a file that doesn't begin so
 

@@ -8,7 +8,6 @@ use Rattle.std.proofs.KnownBytes.{Consumes-trans}
 use Rattle.rec_base.specs.Causes.{Rose}
 use Rattle.rec_base.specs.Contents.{Contents, IsInput, IsOpened}
 use Rattle.rec_base.specs.Known.{AppendsFront, Becomes, BecomesFront}
-use Rattle.rec_base.specs.Moved.{HasFailed}
 use Rattle.rec_base.specs.declared.name.Name.TheVariants.{File}
 use Rattle.rec_base.proofs.Taken.{Becomes-appends}
 use Rattle.chunk_grammar.specs.Chunk.{magic}
@@ -22,7 +21,7 @@ use Rattle.file_call.specs.declared.fault.RepairFault.{RepairFault}
 use Rattle.file_call.specs.Files.{IsEntered}
 use Rattle.file_call.specs.Repaired.{byte_limit, IsRepaired, IsCutRepair, IsFailedRepair, IsLongRepair, IsToldLong}
 use Rattle.file_call.specs.Searched.{IsSearched, IsCutSearch, IsFailedSearch, IsLongSearch, IsKept, IsCut, IsFailed, IsLong, WroteSo}
-use Rattle.file_call.proofs.Kept.{rose_later}
+use Rattle.file_call.proofs.Kept.{rose_from}
 
 -- all that a source had is what the dock's contents tell
 input_of : (contents : Option Contents) (name : List ℕ) (left last : Option (List ℕ)) (all : List ℕ) → IsOpened contents (File name) 0 left → Consumes left last all → IsAtEnd last → IsInput contents (File name) 0 all
@@ -132,7 +131,7 @@ module _ {S M : Type 0} {left_of : S → Option (List ℕ)} {faults_of : S → �
       let cut = cut_of r in
       record {
         cut = cut;
-        failed = record { marked = marked ∙ entered.marked; rose = rose_later (faults_of entered.first) (faults_of source) (faults_of last) entered.later rose; taken = (cut.taken, cut.lost) };
+        failed = record { marked = marked ∙ entered.marked; rose = rose_from (faults_of entered.first) (faults_of source) (faults_of last) entered.quiet rose; taken = (cut.taken, cut.lost) };
       }
 
   pub too_long_of : (limit : ℕ) → limit ≡ byte_limit → (r : IsCutOff (left_of source) (left_of last) empty held') → limit < length (magic ++ r.taken)
@@ -190,7 +189,7 @@ module _ {S M : Type 0} {left_of : S → Option (List ℕ)} {faults_of : S → �
       let cut = search_cut_of r in
       record {
         cut = cut;
-        failed = record { marked = marked ∙ entered.marked; rose = rose_later (faults_of entered.first) (faults_of source) (faults_of last) entered.later rose; taken = (cut.taken, cut.lost) };
+        failed = record { marked = marked ∙ entered.marked; rose = rose_from (faults_of entered.first) (faults_of source) (faults_of last) entered.quiet rose; taken = (cut.taken, cut.lost) };
       }
 
   pub long_search_of : (limit : ℕ) → limit ≡ byte_limit → (r : IsSearchCut (left_of source) (left_of last) empty held') → limit < length (magic ++ r.taken) → AreCountedParts (magic ++ r.taken) limit r.parts
@@ -314,8 +313,3 @@ cut_of_kept true left_of contents from out target target' held held' chunks byte
 pub long_input : {S : Type 0} (form : Bool) (left_of : S → Option (List ℕ)) (contents : Option Contents) (from out : List ℕ) (target target' held held' : Option (List ℕ)) → IsLong form left_of contents from out target target' held held' → IsToldLong contents from
 long_input false left_of contents from out target target' held held' r = r.told
 long_input true left_of contents from out target target' held held' r = r.told
-
-pub failed_input : {S M : Type 0} (form : Bool) (left_of : S → Option (List ℕ)) (faults_of : S → ℕ) (mark_of : S → M) (contents : Option Contents) (from out : List ℕ) (target target' held held' : Option (List ℕ)) → IsFailed form left_of faults_of mark_of contents from out target target' held held'
-    → (first : S) × (last : S) × IsOpened contents (File from) 0 (left_of first) × HasFailed left_of faults_of mark_of first last
-failed_input false left_of faults_of mark_of contents from out target target' held held' r = (r.cut.first, r.cut.last, r.cut.opened, r.failed)
-failed_input true left_of faults_of mark_of contents from out target target' held held' r = (r.cut.first, r.cut.last, r.cut.opened, r.failed)

@@ -1,5 +1,5 @@
 -- What a command that reads a file is told of it. This project's own.
-use Rattle.std.specs.Prelude.{◌≡◌, ◌≢◌, ℕ, ◌≤◌, List, ◌++◌, drop, Option, Some, slice_get}
+use Rattle.std.specs.Prelude.{◌≡◌, ◌≢◌, ℕ, List, ◌++◌, drop, Option, Some, slice_get}
 use Rattle.std.specs.Io.KnownBytes.{Consumes}
 use Rattle.rec_base.specs.declared.name.Name.TheVariants.{File}
 use Rattle.rec_base.specs.Contents.{Contents, IsOpened}
@@ -24,7 +24,7 @@ pub record IsEntered {S M : Type 0} (left_of : S → Option (List ℕ)) (faults_
   pub opened : IsOpened contents (File name) 0 (left_of first)
   pub lost : Consumes (left_of first) (left_of source) magic
   pub marked : mark_of source ≡ mark_of first
-  pub later : faults_of first ≤ faults_of source
+  pub quiet : faults_of source ≡ faults_of first
 
 -- and all its chunks are to come
 pub record IsBegun {S M : Type 0} (left_of : S → Option (List ℕ)) (faults_of : S → ℕ) (mark_of : S → M) (contents : Option Contents) (name : List ℕ) (source : S) (file : FileInlet) : Type 0 where

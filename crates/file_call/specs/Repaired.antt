@@ -4,9 +4,10 @@ use Rattle.std.specs.Fmt.{decimal}
 use Rattle.std.specs.Io.KnownBytes.{Consumes, IsAtEnd}
 use Rattle.rec_base.specs.declared.name.Name.TheVariants.{File}
 use Rattle.rec_base.specs.Causes.{Rose}
-use Rattle.rec_base.specs.Contents.{Contents, IsInput, IsOpened}
+use Rattle.rec_base.specs.Contents.{Contents, Given, IsInput, IsOpened}
 use Rattle.rec_base.specs.Known.{Becomes, BecomesFront}
 use Rattle.rec_base.specs.Moved.{HasFailed}
+use Rattle.dock_calls.specs.Asking.{HasReadFault}
 use Rattle.chunk_grammar.specs.declared.chunk.Chunk.{Chunk}
 use Rattle.chunk_grammar.specs.Chunk.{magic, AreChunkTexts}
 use Rattle.chunk_grammar.specs.Standing.{IsFront}
@@ -69,19 +70,19 @@ pub record IsLongRepair {S : Type 0} (left_of : S → Option (List ℕ)) (conten
 abbrev pub is_repaired : ℕ → Bool
 is_repaired n = n == 0 || n == 1
 
--- nothing of the outside failed: no call of the dock, and no read of a source that was opened at the name
-pub record NoneFailed {S M : Type 0} (left_of : S → Option (List ℕ)) (faults_of : S → ℕ) (mark_of : S → M) (contents : Option Contents) (name : List ℕ) (opens opens' writes writes' says says' : ℕ) : Type 0 where
+-- nothing of the outside failed: no call of the dock, and no read of the source that was opened at the name
+pub record NoneFailed {S M I : Type 0} (left_of : S → Option (List ℕ)) (faults_of : S → ℕ) (mark_of : S → M) (input_mark_of : S → I) (contents : Option Contents) (marks : Option (Given I)) (name : List ℕ) (opens opens' writes writes' says says' : ℕ) : Type 0 where
   pub opening : Rose opens opens' → ⊥
   pub writing : Rose writes writes' → ⊥
   pub saying : Rose says says' → ⊥
-  pub reading : (first last : S) → IsOpened contents (File name) 0 (left_of first) → HasFailed left_of faults_of mark_of first last → ⊥
+  pub reading : HasReadFault left_of faults_of mark_of input_mark_of contents marks (File name) 0 → ⊥
 
 -- where the first text at the name begins with the magic and has no more bytes than count, and nothing of the outside failed, the status is 0 or 1,
 -- or there was no memory
-abbrev pub CompletesRepair : {S M : Type 0} → (S → Option (List ℕ)) → (S → ℕ) → (S → M) → Option Contents → List ℕ → ℕ → ℕ → ℕ → ℕ → ℕ → ℕ → ℕ → Type 0
-CompletesRepair left_of faults_of mark_of contents name opens opens' writes writes' says says' status =
+abbrev pub CompletesRepair : {S M I : Type 0} → (S → Option (List ℕ)) → (S → ℕ) → (S → M) → (S → I) → Option Contents → Option (Given I) → List ℕ → ℕ → ℕ → ℕ → ℕ → ℕ → ℕ → ℕ → Type 0
+CompletesRepair left_of faults_of mark_of input_mark_of contents marks name opens opens' writes writes' says says' status =
     (texts : Contents) (rest : List ℕ) → contents ≡ Some texts → slice_get (texts (File name)) 0 ≡ Some (magic ++ rest) → length (magic ++ rest) ≤ byte_limit
-    → NoneFailed left_of faults_of mark_of contents name opens opens' writes writes' says says' → IsTrue (is_repaired status || status == 9)
+    → NoneFailed left_of faults_of mark_of input_mark_of contents marks name opens opens' writes writes' says says' → IsTrue (is_repaired status || status == 9)
 
 -- what is said of a repair: how many chunks and bytes were kept, and how many bytes were not
 abbrev pub repaired_line : ℕ → ℕ → ℕ → List ℕ

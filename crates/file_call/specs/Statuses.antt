@@ -65,3 +65,13 @@ is_check_status n = n == 0 || n == 1 || n == 3 || n == 4 || n == 7 || n == 8 || 
 
 abbrev pub is_drill_status : ℕ → Bool
 is_drill_status n = n == 0 || n == 8 || n == 9
+
+-- ---- of all of them
+
+-- all that the command asks for was asked for
+abbrev pub is_all_asked : ℕ → Bool
+is_all_asked n = n == 0 || n == 1 || n == 5 || n == 6 || n == 7 || n == 8
+
+-- all lines were said
+abbrev pub is_all_said : ℕ → Bool
+is_all_said n = n == 0 || n == 1 || n == 6

@@ -1,12 +1,13 @@
 //! `drill`: a recording of feeds that are made by a rule, in memory, and its check.
 
-ghost use Rattle.std.specs.Prelude.{◌≡◌, ◌≤◌, ◌⊎◌, ℕ, IsTrue, IsErr, IsErrOf, IfOk, OnOk, codes};
+ghost use Rattle.std.specs.Prelude.{◌≡◌, ◌≤◌, ◌⊎◌, ℕ, [], IsTrue, IsErr, IsErrOf, IfOk, OnOk, codes};
+ghost use Rattle.dock_calls.specs.Asking.{IsCaused};
+ghost use Rattle.rec_base.specs.Causes.{Blames, Rose};
 ghost use Rattle.std.specs.Io.KnownBytes.{Appends};
-ghost use Rattle.rec_base.specs.Causes.{Rose};
 ghost use Rattle.rec_base.specs.Known.{AppendsFront, printed_line};
 ghost use Rattle.dock_calls.specs.Said.{SaysFault};
 ghost use Rattle.file_call.specs.Drilled.{IsDrillCut, IsDrillSaid, IsDrilled, drill_line};
-ghost use Rattle.file_call.specs.Statuses.{is_drill_status};
+ghost use Rattle.file_call.specs.Statuses.{is_all_asked, is_all_said, is_drill_status};
 
 use crate::fault::DrillFault;
 use crate::noted::notes_in;
@@ -54,9 +55,8 @@ fn say_drilled<D: Dock>(
     ensures say { IsErrOf result DrillFault.Say → Rose (D.print_faults dock.old) (D.print_faults dock.new)
         × AppendsFront (D.printed dock.old) (D.printed dock.new) (printed_line (drill_line number numbers.bytes numbers.chunks numbers.kept numbers.lost numbers.notes)) }
     ensures memory { IsErrOf result DrillFault.Memory → (D.printed dock.new ≡ D.printed dock.old) × (D.print_faults dock.new ≡ D.print_faults dock.old) }
-    ensures target { D.target dock.new ≡ D.target dock.old }
-    ensures held { D.held dock.new ≡ D.held dock.old }
-    ensures write_faults { D.write_faults dock.new ≡ D.write_faults dock.old }
+    ensures says { Blames (IsErrOf result DrillFault.Say) (D.print_faults dock.old) (D.print_faults dock.new) }
+    ensures rest { D.Lines.rest dock.new ≡ D.Lines.rest dock.old }
 {
     let Drilled {
         bytes,
@@ -84,9 +84,8 @@ fn drill<D: Dock>(alloc: Global, number: u64, dock: &mut D) -> Result<(), DrillF
     ensures drilled { OnOk result (IsDrillSaid number (D.printed dock.old) (D.printed dock.new)) }
     ensures say { IsErrOf result DrillFault.Say → Rose (D.print_faults dock.old) (D.print_faults dock.new) × IsDrillCut number (D.printed dock.old) (D.printed dock.new) }
     ensures memory { IsErrOf result DrillFault.Memory → (D.printed dock.new ≡ D.printed dock.old) × (D.print_faults dock.new ≡ D.print_faults dock.old) }
-    ensures target { D.target dock.new ≡ D.target dock.old }
-    ensures held { D.held dock.new ≡ D.held dock.old }
-    ensures write_faults { D.write_faults dock.new ≡ D.write_faults dock.old }
+    ensures says { Blames (IsErrOf result DrillFault.Say) (D.print_faults dock.old) (D.print_faults dock.new) }
+    ensures rest { D.Lines.rest dock.new ≡ D.Lines.rest dock.old }
 {
     let numbers = match run_drill(alloc, number) {
         Ok(numbers) => numbers,
@@ -106,7 +105,9 @@ pub(crate) fn drill_status<D: Dock>(alloc: Global, number: u64, dock: &mut D) ->
     ensures drilled { result ≡ 0 → IsDrillSaid number (D.printed dock.old) (D.printed dock.new) }
     ensures say_fault { result ≡ 8 → Rose (D.print_faults dock.old) (D.print_faults dock.new) × IsDrillCut number (D.printed dock.old) (D.printed dock.new) }
     ensures memory { result ≡ 9 → SaysFault (D.printed dock.old) (D.printed dock.new) (D.print_faults dock.old) (D.print_faults dock.new) (codes "fault 9") }
-    ensures nothing_written { (D.target dock.new ≡ D.target dock.old) × (D.held dock.new ≡ D.held dock.old) × (D.write_faults dock.new ≡ D.write_faults dock.old) }
+    ensures nothing_written { (D.target dock.new ≡ D.target dock.old) × (D.held dock.new ≡ D.held dock.old) }
+    ensures caused { IsCaused (is_all_asked result) (is_all_said result) [] (D.asked dock.old) (D.asked dock.new) (D.open_faults dock.old) (D.open_faults dock.new)
+        (D.write_faults dock.old) (D.write_faults dock.new) (D.print_faults dock.old) (D.print_faults dock.new) result }
 {
     match drill(alloc, number, dock) {
         Ok(()) => 0,

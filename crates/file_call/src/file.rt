@@ -1,12 +1,12 @@
 //! The top call.
 
 ghost use Rattle.std.specs.Prelude.{◌≡◌, ◌⊎◌, ◌↔◌, ◌++◌, [], List, ℕ, Bool, true, IsTrue, IsErr, Ok, Err, codes};
+ghost use Rattle.dock_calls.specs.Asking.{FailsAt, HasReadFault, IsCaused};
+ghost use Rattle.file_call.specs.Orders.{input_order, repair_order, file_order};
+ghost use Rattle.rec_base.specs.Causes.{Rose};
 ghost use Rattle.std.specs.Fmt.{decimal};
 ghost use Rattle.std.specs.Io.KnownBytes.{Appends};
-ghost use Rattle.rec_base.specs.Causes.{Rose};
-ghost use Rattle.rec_base.specs.Contents.{IsOpened};
 ghost use Rattle.rec_base.specs.Known.{AppendsFront, Becomes, printed_line};
-ghost use Rattle.rec_base.specs.Moved.{HasFailed};
 ghost use Rattle.rec_base.specs.declared.name.Name.TheVariants.{File};
 ghost use Rattle.file_model.specs.declared.end.FileEnd.{FileEnd};
 ghost use Rattle.file_model.specs.declared.end.FileEnd.TheVariants.{ReadFault, SizeLimit};
@@ -20,7 +20,7 @@ ghost use Rattle.file_call.specs.Drilled.{IsDrillCut, IsDrillSaid};
 ghost use Rattle.file_call.specs.Files.{IsFileOf, IsFileFrom, IsOtherFile, IsToldOther};
 ghost use Rattle.file_call.specs.Repaired.{CompletesRepair, is_repair_status, is_repaired, repaired_line, repaired_status};
 ghost use Rattle.file_call.specs.Searched.{GoesOverDamage, IsCut, IsFailed, IsKept, IsLong};
-ghost use Rattle.file_call.specs.Statuses.{check_status, file_status, is_check_status, is_checked, is_drill_status, is_show_status, is_shown};
+ghost use Rattle.file_call.specs.Statuses.{check_status, file_status, is_all_asked, is_all_said, is_check_status, is_checked, is_drill_status, is_show_status, is_shown};
 ghost use Rattle.file_call.specs.Said.{SaysSomeBehind};
 
 use crate::check::check_status;
@@ -62,12 +62,15 @@ use std::alloc::Global;
 /// can't be created; after a later fault the output has a front of the magic and of whole chunks of the
 /// input. The clauses are told command by command.
 pub fn file_main<D: Dock>(alloc: Global, words: &[Word], dock: &mut D) -> u8
+    // ---- the dock: what was asked for, and which counts rose
+    ensures caused { IsCaused (is_all_asked result) (is_all_said result) (file_order (command_in for_files words.now)) (D.asked dock.old) (D.asked dock.new) (D.open_faults dock.old) (D.open_faults dock.new)
+        (D.write_faults dock.old) (D.write_faults dock.new) (D.print_faults dock.old) (D.print_faults dock.new) result }
+
     // ---- the words
     ensures usage { (result ≡ 2) ↔ IsErr (command_in for_files words.now) }
     ensures usage_line { (why : ℕ) → command_in for_files words.now ≡ Err why
         → SaysFault (D.printed dock.old) (D.printed dock.new) (D.print_faults dock.old) (D.print_faults dock.new) (codes "fault 2 usage " ++ decimal why) }
-
-    ensures usage_writes_nothing { IsErr (command_in for_files words.now) → (D.target dock.new ≡ D.target dock.old) × (D.held dock.new ≡ D.held dock.old) × (D.write_faults dock.new ≡ D.write_faults dock.old) }
+    ensures usage_writes_nothing { IsErr (command_in for_files words.now) → (D.target dock.new ≡ D.target dock.old) × (D.held dock.new ≡ D.held dock.old) }
 
     // ---- show
     ensures show_statuses { (name : List ℕ) → command_in for_files words.now ≡ Ok (show_file name)
@@ -80,11 +83,11 @@ pub fn file_main<D: Dock>(alloc: Global, words: &[Word], dock: &mut D) -> u8
         → result ≡ 3 → IsOtherFile D.Source.left (D.contents dock.old) name × IsToldOther (D.contents dock.old) name
         × SaysFault (D.printed dock.old) (D.printed dock.new) (D.print_faults dock.old) (D.print_faults dock.new) (codes "fault 3") }
     ensures show_open_fault { (name : List ℕ) → command_in for_files words.now ≡ Ok (show_file name)
-        → result ≡ 4 → ((Rose (D.open_faults dock.old) (D.open_faults dock.new)
-        ⊎ ((first : D.Source) × (last : D.Source) × IsOpened (D.contents dock.old) (File name) 0 (D.Source.left first)
-        × HasFailed D.Source.left D.Source.faults D.Source.mark first last))
+        → result ≡ 4 → ((FailsAt (D.asked dock.old) (D.asked dock.new) (input_order name) (D.open_faults dock.old) (D.open_faults dock.new)
+        ⊎ HasReadFault D.Source.left D.Source.faults D.Source.mark D.input_mark (D.contents dock.old) (D.marks dock.old) (File name) 0)
         × SaysBehind (D.printed dock.old) (D.printed dock.new) (D.print_faults dock.old) (D.print_faults dock.new) [] (codes "fault 4"))
-        ⊎ ((chunks : List ChunkAt) × IsFileOf D.Source.left D.Source.faults D.Source.mark (D.contents dock.old) name chunks ReadFault
+        ⊎ (HasReadFault D.Source.left D.Source.faults D.Source.mark D.input_mark (D.contents dock.old) (D.marks dock.old) (File name) 0
+        × (chunks : List ChunkAt) × IsFileOf D.Source.left D.Source.faults D.Source.mark (D.contents dock.old) name chunks ReadFault
         × SaysBehind (D.printed dock.old) (D.printed dock.new) (D.print_faults dock.old) (D.print_faults dock.new) (show_lines (chunks, ReadFault)) (codes "fault 4")) }
     ensures show_size_limit { (name : List ℕ) → command_in for_files words.now ≡ Ok (show_file name)
         → result ≡ 7 → (chunks : List ChunkAt) × IsFileOf D.Source.left D.Source.faults D.Source.mark (D.contents dock.old) name chunks SizeLimit
@@ -100,7 +103,7 @@ pub fn file_main<D: Dock>(alloc: Global, words: &[Word], dock: &mut D) -> u8
         ⊎ ((lines : List (List ℕ)) × IsFileFrom AreFirstLines D.Source.left (D.contents dock.old) name lines
         × SaysBehind (D.printed dock.old) (D.printed dock.new) (D.print_faults dock.old) (D.print_faults dock.new) lines (codes "fault 9")) }
     ensures show_writes_nothing { (name : List ℕ) → command_in for_files words.now ≡ Ok (show_file name)
-        → (D.target dock.new ≡ D.target dock.old) × (D.held dock.new ≡ D.held dock.old) × (D.write_faults dock.new ≡ D.write_faults dock.old) }
+        → (D.target dock.new ≡ D.target dock.old) × (D.held dock.new ≡ D.held dock.old) }
 
     // ---- check
     ensures check_statuses { (name : List ℕ) → command_in for_files words.now ≡ Ok (check_file name)
@@ -113,11 +116,11 @@ pub fn file_main<D: Dock>(alloc: Global, words: &[Word], dock: &mut D) -> u8
         → result ≡ 3 → IsOtherFile D.Source.left (D.contents dock.old) name × IsToldOther (D.contents dock.old) name
         × SaysFault (D.printed dock.old) (D.printed dock.new) (D.print_faults dock.old) (D.print_faults dock.new) (codes "fault 3") }
     ensures check_open_fault { (name : List ℕ) → command_in for_files words.now ≡ Ok (check_file name)
-        → result ≡ 4 → ((Rose (D.open_faults dock.old) (D.open_faults dock.new)
-        ⊎ ((first : D.Source) × (last : D.Source) × IsOpened (D.contents dock.old) (File name) 0 (D.Source.left first)
-        × HasFailed D.Source.left D.Source.faults D.Source.mark first last))
+        → result ≡ 4 → ((FailsAt (D.asked dock.old) (D.asked dock.new) (input_order name) (D.open_faults dock.old) (D.open_faults dock.new)
+        ⊎ HasReadFault D.Source.left D.Source.faults D.Source.mark D.input_mark (D.contents dock.old) (D.marks dock.old) (File name) 0)
         × SaysBehind (D.printed dock.old) (D.printed dock.new) (D.print_faults dock.old) (D.print_faults dock.new) [] (codes "fault 4"))
-        ⊎ ((chunks : List ChunkAt) × IsFileOf D.Source.left D.Source.faults D.Source.mark (D.contents dock.old) name chunks ReadFault
+        ⊎ (HasReadFault D.Source.left D.Source.faults D.Source.mark D.input_mark (D.contents dock.old) (D.marks dock.old) (File name) 0
+        × (chunks : List ChunkAt) × IsFileOf D.Source.left D.Source.faults D.Source.mark (D.contents dock.old) name chunks ReadFault
         × SaysBehind (D.printed dock.old) (D.printed dock.new) (D.print_faults dock.old) (D.print_faults dock.new) (check_lines (chunks, ReadFault)) (codes "fault 4")) }
     ensures check_size_limit { (name : List ℕ) → command_in for_files words.now ≡ Ok (check_file name)
         → result ≡ 7 → (chunks : List ChunkAt) × IsFileOf D.Source.left D.Source.faults D.Source.mark (D.contents dock.old) name chunks SizeLimit
@@ -135,7 +138,7 @@ pub fn file_main<D: Dock>(alloc: Global, words: &[Word], dock: &mut D) -> u8
         ⊎ ((chunks : List ChunkAt) × (end : FileEnd) × IsFileOf D.Source.left D.Source.faults D.Source.mark (D.contents dock.old) name chunks end
         × SaysSomeBehind (D.printed dock.old) (D.printed dock.new) (D.print_faults dock.old) (D.print_faults dock.new) (check_lines (chunks, end)) (codes "fault 9")) }
     ensures check_writes_nothing { (name : List ℕ) → command_in for_files words.now ≡ Ok (check_file name)
-        → (D.target dock.new ≡ D.target dock.old) × (D.held dock.new ≡ D.held dock.old) × (D.write_faults dock.new ≡ D.write_faults dock.old) }
+        → (D.target dock.new ≡ D.target dock.old) × (D.held dock.new ≡ D.held dock.old) }
 
     // ---- repair
     ensures repair_statuses { (search : Bool) (from : List ℕ) (out : List ℕ) → command_in for_files words.now ≡ Ok (repair_file search from out)
@@ -149,11 +152,11 @@ pub fn file_main<D: Dock>(alloc: Global, words: &[Word], dock: &mut D) -> u8
         × (D.target dock.new ≡ D.target dock.old) × (D.held dock.new ≡ D.held dock.old)
         × SaysFault (D.printed dock.old) (D.printed dock.new) (D.print_faults dock.old) (D.print_faults dock.new) (codes "fault 3") }
     ensures repair_open_fault { (search : Bool) (from : List ℕ) (out : List ℕ) → command_in for_files words.now ≡ Ok (repair_file search from out)
-        → result ≡ 4 → (((Rose (D.open_faults dock.old) (D.open_faults dock.new)
-        ⊎ ((first : D.Source) × (last : D.Source) × IsOpened (D.contents dock.old) (File from) 0 (D.Source.left first)
-        × HasFailed D.Source.left D.Source.faults D.Source.mark first last))
+        → result ≡ 4 → (((FailsAt (D.asked dock.old) (D.asked dock.new) (repair_order from out) (D.open_faults dock.old) (D.open_faults dock.new)
+        ⊎ HasReadFault D.Source.left D.Source.faults D.Source.mark D.input_mark (D.contents dock.old) (D.marks dock.old) (File from) 0)
         × (D.target dock.new ≡ D.target dock.old) × (D.held dock.new ≡ D.held dock.old))
-        ⊎ (IsFailed search D.Source.left D.Source.faults D.Source.mark (D.contents dock.old) from out (D.target dock.old) (D.target dock.new) (D.held dock.old) (D.held dock.new)))
+        ⊎ (HasReadFault D.Source.left D.Source.faults D.Source.mark D.input_mark (D.contents dock.old) (D.marks dock.old) (File from) 0
+        × IsFailed search D.Source.left D.Source.faults D.Source.mark (D.contents dock.old) from out (D.target dock.old) (D.target dock.new) (D.held dock.old) (D.held dock.new)))
         × SaysFault (D.printed dock.old) (D.printed dock.new) (D.print_faults dock.old) (D.print_faults dock.new) (codes "fault 4") }
     ensures repair_write_fault { (search : Bool) (from : List ℕ) (out : List ℕ) → command_in for_files words.now ≡ Ok (repair_file search from out)
         → result ≡ 5 → ((created : D)
@@ -175,7 +178,7 @@ pub fn file_main<D: Dock>(alloc: Global, words: &[Word], dock: &mut D) -> u8
     ensures search_goes_over_damage { (from : List ℕ) (out : List ℕ) → command_in for_files words.now ≡ Ok (repair_file true from out)
         → IsTrue (is_repaired result) → GoesOverDamage (D.contents dock.old) from out (D.target dock.old) (D.target dock.new) (D.held dock.old) (D.held dock.new) (D.printed dock.old) (D.printed dock.new) result }
     ensures repair_completes { (search : Bool) (from : List ℕ) (out : List ℕ) → command_in for_files words.now ≡ Ok (repair_file search from out)
-        → CompletesRepair D.Source.left D.Source.faults D.Source.mark (D.contents dock.old) from (D.open_faults dock.old) (D.open_faults dock.new)
+        → CompletesRepair D.Source.left D.Source.faults D.Source.mark D.input_mark (D.contents dock.old) (D.marks dock.old) from (D.open_faults dock.old) (D.open_faults dock.new)
         (D.write_faults dock.old) (D.write_faults dock.new) (D.print_faults dock.old) (D.print_faults dock.new) result }
 
     // ---- drill
@@ -188,7 +191,7 @@ pub fn file_main<D: Dock>(alloc: Global, words: &[Word], dock: &mut D) -> u8
     ensures drill_memory { (number : ℕ) → command_in for_files words.now ≡ Ok (drill number)
         → result ≡ 9 → SaysFault (D.printed dock.old) (D.printed dock.new) (D.print_faults dock.old) (D.print_faults dock.new) (codes "fault 9") }
     ensures drill_writes_nothing { (number : ℕ) → command_in for_files words.now ≡ Ok (drill number)
-        → (D.target dock.new ≡ D.target dock.old) × (D.held dock.new ≡ D.held dock.old) × (D.write_faults dock.new ≡ D.write_faults dock.old) }
+        → (D.target dock.new ≡ D.target dock.old) × (D.held dock.new ≡ D.held dock.old) }
 {
     let command = match read_words(Top::File, words) {
         Ok(command) => command,

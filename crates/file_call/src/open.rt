@@ -1,9 +1,10 @@
 //! Opens a file and takes its magic, as every command on a file begins.
 
 ghost use Rattle.std.specs.Prelude.{◌≡◌, ◌≤◌, ◌⊎◌, List, ℕ, IsErr, IsErrOf, IfOk, None, false, []};
-ghost use Rattle.rec_base.specs.Causes.{Rose};
-ghost use Rattle.rec_base.specs.Contents.{IsOpened};
-ghost use Rattle.rec_base.specs.Moved.{HasFailed};
+ghost use Rattle.dock_calls.specs.Asking.{FailsAt, HasReadFault};
+ghost use Rattle.rec_base.specs.Asked.{AsksAll, AsksFront};
+ghost use Rattle.file_call.specs.Orders.{input_order};
+ghost use Rattle.rec_base.specs.Contents.{IsMarked};
 ghost use Rattle.rec_base.specs.declared.name.Name.TheVariants.{File};
 ghost use Rattle.file_reader.specs.FileInlet.{outlook};
 ghost use Rattle.file_call.specs.Files.{IsBegun, IsOtherFile};
@@ -26,11 +27,13 @@ pub(crate) fn open_file<D: Dock>(
     ensures fresh { IfOk result (λ r. ((outlook r.file).is_over ≡ false) × (r.file.context ≡ []) × (r.file.place ≡ 4) × (r.file.last ≡ []) × (r.file.byte_limit ≡ 1_099_511_627_776)) }
     ensures start { IfOk result (λ r. (r.file.ahead ≡ []) × (r.skipped ≡ None)) }
     ensures not_xdf { IsErrOf result OpenFault.NotXdf → IsOtherFile D.Source.left (D.contents dock.old) name.now }
-    ensures failed { IsErrOf result OpenFault.Open → Rose (D.open_faults dock.old) (D.open_faults dock.new)
-        ⊎ ((first : D.Source) × (last : D.Source) × IsOpened (D.contents dock.old) (File name.now) 0 (D.Source.left first)
-        × HasFailed D.Source.left D.Source.faults D.Source.mark first last) }
+    ensures failed { IsErrOf result OpenFault.Open → FailsAt (D.asked dock.old) (D.asked dock.new) (input_order name.now) (D.open_faults dock.old) (D.open_faults dock.new)
+        ⊎ HasReadFault D.Source.left D.Source.faults D.Source.mark D.input_mark (D.contents dock.old) (D.marks dock.old) (File name.now) 0 }
     ensures none_else { IsErr result → IsErrOf result OpenFault.NotXdf ⊎ IsErrOf result OpenFault.Open ⊎ IsErrOf result OpenFault.Memory }
-    ensures later { D.open_faults dock.old ≤ D.open_faults dock.new }
+    ensures marked { IfOk result (λ r. IsMarked (D.marks dock.old) (File name.now) 0 (D.input_mark r.source)) }
+    ensures asks { AsksFront (D.asked dock.old) (D.asked dock.new) (input_order name.now) }
+    ensures asks_all { (IsErrOf result OpenFault.Memory → ⊥) → AsksAll (D.asked dock.old) (D.asked dock.new) (input_order name.now) }
+    ensures quiet { (IsErrOf result OpenFault.Open → ⊥) → D.open_faults dock.new ≡ D.open_faults dock.old }
     ensures target { D.target dock.new ≡ D.target dock.old }
     ensures held { D.held dock.new ≡ D.held dock.old }
     ensures printed { D.printed dock.new ≡ D.printed dock.old }

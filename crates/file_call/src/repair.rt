@@ -1,11 +1,13 @@
 //! `repair`: what is whole in a file, in another one.
 
 ghost use Rattle.std.specs.Prelude.{◌≡◌, ◌⊎◌, ℕ, [], None, false, IsTrue, IsErr, IsErrOf, IfOk, OnOk, codes};
+ghost use Rattle.dock_calls.specs.Asking.{FailsAt, HasReadFault, IsCaused};
+ghost use Rattle.rec_base.specs.Asked.{AsksAll, AsksFront};
+ghost use Rattle.file_call.specs.Orders.{repair_order};
+ghost use Rattle.rec_base.specs.Causes.{Blames, Rose};
+ghost use Rattle.file_call.specs.Statuses.{is_all_asked, is_all_said};
 ghost use Rattle.std.specs.Io.KnownBytes.{Appends};
-ghost use Rattle.rec_base.specs.Causes.{Rose};
-ghost use Rattle.rec_base.specs.Contents.{IsOpened};
-ghost use Rattle.rec_base.specs.Known.{AppendsFront, Becomes, printed_line};
-ghost use Rattle.rec_base.specs.Moved.{HasFailed};
+ghost use Rattle.rec_base.specs.Known.{AppendsFront, Becomes, Loses, printed_line};
 ghost use Rattle.rec_base.specs.declared.name.Name.TheVariants.{File};
 ghost use Rattle.dock_calls.specs.Said.{SaysFault};
 ghost use Rattle.file_reader.specs.FileInlet.{outlook};
@@ -67,8 +69,8 @@ fn write_whole<S: Source + Drop, K: Sink>(
     requires fresh { ((outlook reader.file).is_over ≡ false) × (reader.file.context ≡ []) × (reader.file.place ≡ 4) × (reader.file.last ≡ []) × (reader.file.ahead ≡ []) × (reader.skipped ≡ None) }
     requires limit { reader.file.byte_limit ≡ 1_099_511_627_776 }
     ensures wrote { (last : S) × WroteSo search (S.left reader.source) (S.left last) (K.held sink.old) (K.held sink.new) 1_099_511_627_776 result
-        × (S.mark last ≡ S.mark reader.source) × (result ≡ Repaired.ReadFault → Rose (S.faults reader.source) (S.faults last)) }
-    ensures write_fault { result ≡ Repaired.WriteFault → Rose (K.write_faults sink.old) (K.write_faults sink.new) }
+        × (S.mark last ≡ S.mark reader.source) × (result ≡ Repaired.ReadFault → Rose (S.faults reader.source) (S.faults last)) × Loses (S.left reader.source) (S.left last) }
+    ensures write_fault { Blames (result ≡ Repaired.WriteFault) (K.write_faults sink.old) (K.write_faults sink.new) }
     ensures rest { K.rest sink.new ≡ K.rest sink.old }
 {
     let mut reader = reader;
@@ -90,9 +92,8 @@ fn write_kept<D: Dock>(
 ) -> Result<Kept, RepairFault>
     ensures kept { IfOk result (λ k. IsKept search D.Source.left (D.contents dock.old) from.now to.now (D.target dock.old) (D.target dock.new) (D.held dock.old) (D.held dock.new) k.chunks k.bytes k.skipped) }
     ensures not_xdf { IsErrOf result RepairFault.NotXdf → IsOtherFile D.Source.left (D.contents dock.old) from.now }
-    ensures open { IsErrOf result RepairFault.Open → Rose (D.open_faults dock.old) (D.open_faults dock.new)
-        ⊎ ((first : D.Source) × (last : D.Source) × IsOpened (D.contents dock.old) (File from.now) 0 (D.Source.left first)
-        × HasFailed D.Source.left D.Source.faults D.Source.mark first last) }
+    ensures open { IsErrOf result RepairFault.Open → FailsAt (D.asked dock.old) (D.asked dock.new) (repair_order from.now to.now) (D.open_faults dock.old) (D.open_faults dock.new)
+        ⊎ HasReadFault D.Source.left D.Source.faults D.Source.mark D.input_mark (D.contents dock.old) (D.marks dock.old) (File from.now) 0 }
     ensures untouched { IsErrOf result RepairFault.NotXdf ⊎ IsErrOf result RepairFault.Open ⊎ IsErrOf result RepairFault.NoInput
         → (D.target dock.new ≡ D.target dock.old) × (D.held dock.new ≡ D.held dock.old) × (D.write_faults dock.new ≡ D.write_faults dock.old) }
     ensures read { IsErrOf result RepairFault.Read
@@ -106,6 +107,11 @@ fn write_kept<D: Dock>(
         → IsCut search D.Source.left (D.contents dock.old) from.now to.now (D.target dock.old) (D.target dock.new) (D.held dock.old) (D.held dock.new) }
     ensures none_else { IsErr result → IsErrOf result RepairFault.NotXdf ⊎ IsErrOf result RepairFault.Open ⊎ IsErrOf result RepairFault.NoInput ⊎ IsErrOf result RepairFault.Read
         ⊎ IsErrOf result RepairFault.Write ⊎ IsErrOf result RepairFault.SizeLimit ⊎ IsErrOf result RepairFault.Memory }
+    ensures read_cause { IsErrOf result RepairFault.Read → HasReadFault D.Source.left D.Source.faults D.Source.mark D.input_mark (D.contents dock.old) (D.marks dock.old) (File from.now) 0 }
+    ensures asks { AsksFront (D.asked dock.old) (D.asked dock.new) (repair_order from.now to.now) }
+    ensures asks_all { (IsErrOf result RepairFault.NotXdf ⊎ IsErrOf result RepairFault.Open ⊎ IsErrOf result RepairFault.NoInput → ⊥) → AsksAll (D.asked dock.old) (D.asked dock.new) (repair_order from.now to.now) }
+    ensures opens { (IsErrOf result RepairFault.Open → ⊥) → D.open_faults dock.new ≡ D.open_faults dock.old }
+    ensures writes { Blames (IsErrOf result RepairFault.Write) (D.write_faults dock.old) (D.write_faults dock.new) }
     ensures printed { D.printed dock.new ≡ D.printed dock.old }
     ensures print_faults { D.print_faults dock.new ≡ D.print_faults dock.old }
 {
@@ -129,9 +135,8 @@ fn say_kept<D: Dock>(alloc: Global, kept: Kept, dock: &mut D) -> Result<(), Repa
         × Rose (D.print_faults dock.old) (D.print_faults dock.new) }
     ensures memory { IsErrOf result RepairFault.Memory → (D.printed dock.new ≡ D.printed dock.old) × (D.print_faults dock.new ≡ D.print_faults dock.old) }
     ensures none_else { IsErr result → IsErrOf result RepairFault.Say ⊎ IsErrOf result RepairFault.Memory }
-    ensures target { D.target dock.new ≡ D.target dock.old }
-    ensures held { D.held dock.new ≡ D.held dock.old }
-    ensures write_faults { D.write_faults dock.new ≡ D.write_faults dock.old }
+    ensures says { Blames (IsErrOf result RepairFault.Say) (D.print_faults dock.old) (D.print_faults dock.new) }
+    ensures rest { D.Lines.rest dock.new ≡ D.Lines.rest dock.old }
 {
     let Kept {
         chunks,
@@ -160,9 +165,8 @@ fn repair<D: Dock>(
         × IsKept search D.Source.left (D.contents dock.old) from.now to.now (D.target dock.old) (D.target dock.new) (D.held dock.old) (D.held dock.new) chunks bytes skipped
         × Appends (D.printed dock.old) (D.printed dock.new) (printed_line (repaired_line chunks bytes skipped))) }
     ensures not_xdf { IsErrOf result RepairFault.NotXdf → IsOtherFile D.Source.left (D.contents dock.old) from.now }
-    ensures open { IsErrOf result RepairFault.Open → Rose (D.open_faults dock.old) (D.open_faults dock.new)
-        ⊎ ((first : D.Source) × (last : D.Source) × IsOpened (D.contents dock.old) (File from.now) 0 (D.Source.left first)
-        × HasFailed D.Source.left D.Source.faults D.Source.mark first last) }
+    ensures open { IsErrOf result RepairFault.Open → FailsAt (D.asked dock.old) (D.asked dock.new) (repair_order from.now to.now) (D.open_faults dock.old) (D.open_faults dock.new)
+        ⊎ HasReadFault D.Source.left D.Source.faults D.Source.mark D.input_mark (D.contents dock.old) (D.marks dock.old) (File from.now) 0 }
     ensures untouched { IsErrOf result RepairFault.NotXdf ⊎ IsErrOf result RepairFault.Open ⊎ IsErrOf result RepairFault.NoInput
         → (D.target dock.new ≡ D.target dock.old) × (D.held dock.new ≡ D.held dock.old) × (D.write_faults dock.new ≡ D.write_faults dock.old) }
     ensures read { IsErrOf result RepairFault.Read
@@ -177,6 +181,12 @@ fn repair<D: Dock>(
         × AppendsFront (D.printed dock.old) (D.printed dock.new) (printed_line (repaired_line chunks bytes skipped)) }
     ensures memory { IsErrOf result RepairFault.Memory
         → IsCut search D.Source.left (D.contents dock.old) from.now to.now (D.target dock.old) (D.target dock.new) (D.held dock.old) (D.held dock.new) }
+    ensures read_cause { IsErrOf result RepairFault.Read → HasReadFault D.Source.left D.Source.faults D.Source.mark D.input_mark (D.contents dock.old) (D.marks dock.old) (File from.now) 0 }
+    ensures asks { AsksFront (D.asked dock.old) (D.asked dock.new) (repair_order from.now to.now) }
+    ensures asks_all { (IsErrOf result RepairFault.NotXdf ⊎ IsErrOf result RepairFault.Open ⊎ IsErrOf result RepairFault.NoInput → ⊥) → AsksAll (D.asked dock.old) (D.asked dock.new) (repair_order from.now to.now) }
+    ensures opens { (IsErrOf result RepairFault.Open → ⊥) → D.open_faults dock.new ≡ D.open_faults dock.old }
+    ensures writes { Blames (IsErrOf result RepairFault.Write) (D.write_faults dock.old) (D.write_faults dock.new) }
+    ensures says { Blames (IsErrOf result RepairFault.Say) (D.print_faults dock.old) (D.print_faults dock.new) }
     ensures none_said { IsErr result → IsErrOf result RepairFault.Say ⊎ ((D.printed dock.new ≡ D.printed dock.old) × (D.print_faults dock.new ≡ D.print_faults dock.old)) }
 {
     let kept = match write_kept(alloc, search, from, to, dock) {
@@ -204,11 +214,11 @@ pub(crate) fn repair_status<D: Dock>(
     ensures not_xdf { result ≡ 3 → IsOtherFile D.Source.left (D.contents dock.old) from.now × IsToldOther (D.contents dock.old) from.now
         × (D.target dock.new ≡ D.target dock.old) × (D.held dock.new ≡ D.held dock.old)
         × SaysFault (D.printed dock.old) (D.printed dock.new) (D.print_faults dock.old) (D.print_faults dock.new) (codes "fault 3") }
-    ensures open_fault { result ≡ 4 → (((Rose (D.open_faults dock.old) (D.open_faults dock.new)
-        ⊎ ((first : D.Source) × (last : D.Source) × IsOpened (D.contents dock.old) (File from.now) 0 (D.Source.left first)
-        × HasFailed D.Source.left D.Source.faults D.Source.mark first last))
+    ensures open_fault { result ≡ 4 → (((FailsAt (D.asked dock.old) (D.asked dock.new) (repair_order from.now to.now) (D.open_faults dock.old) (D.open_faults dock.new)
+        ⊎ HasReadFault D.Source.left D.Source.faults D.Source.mark D.input_mark (D.contents dock.old) (D.marks dock.old) (File from.now) 0)
         × (D.target dock.new ≡ D.target dock.old) × (D.held dock.new ≡ D.held dock.old))
-        ⊎ (IsFailed search D.Source.left D.Source.faults D.Source.mark (D.contents dock.old) from.now to.now (D.target dock.old) (D.target dock.new) (D.held dock.old) (D.held dock.new)))
+        ⊎ (HasReadFault D.Source.left D.Source.faults D.Source.mark D.input_mark (D.contents dock.old) (D.marks dock.old) (File from.now) 0
+        × IsFailed search D.Source.left D.Source.faults D.Source.mark (D.contents dock.old) from.now to.now (D.target dock.old) (D.target dock.new) (D.held dock.old) (D.held dock.new)))
         × SaysFault (D.printed dock.old) (D.printed dock.new) (D.print_faults dock.old) (D.print_faults dock.new) (codes "fault 4") }
     ensures write_fault { result ≡ 5 → ((created : D)
         × Becomes (D.target dock.old) (D.target created) to.now × (D.write_faults created ≡ D.write_faults dock.old) × Rose (D.write_faults created) (D.write_faults dock.new)
@@ -223,6 +233,8 @@ pub(crate) fn repair_status<D: Dock>(
     ensures memory { result ≡ 9 → (((D.target dock.new ≡ D.target dock.old) × (D.held dock.new ≡ D.held dock.old))
         ⊎ IsCut search D.Source.left (D.contents dock.old) from.now to.now (D.target dock.old) (D.target dock.new) (D.held dock.old) (D.held dock.new))
         × SaysFault (D.printed dock.old) (D.printed dock.new) (D.print_faults dock.old) (D.print_faults dock.new) (codes "fault 9") }
+    ensures caused { IsCaused (is_all_asked result) (is_all_said result) (repair_order from.now to.now) (D.asked dock.old) (D.asked dock.new) (D.open_faults dock.old) (D.open_faults dock.new)
+        (D.write_faults dock.old) (D.write_faults dock.new) (D.print_faults dock.old) (D.print_faults dock.new) result }
 {
     match repair(alloc, search, from, to, dock) {
         Ok(0) => 0,

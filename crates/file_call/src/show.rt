@@ -1,11 +1,12 @@
 //! `show`: what a file holds, chunk by chunk.
 
 ghost use Rattle.std.specs.Prelude.{◌≡◌, ◌≤◌, ◌⊎◌, List, ℕ, IsTrue, IsErrOf, IfOk, [], codes};
+ghost use Rattle.dock_calls.specs.Asking.{FailsAt, HasReadFault, IsCaused};
+ghost use Rattle.rec_base.specs.Asked.{AsksAll, AsksFront};
+ghost use Rattle.file_call.specs.Orders.{input_order};
+ghost use Rattle.rec_base.specs.Causes.{Blames, Rose};
 ghost use Rattle.std.specs.Io.KnownBytes.{Appends};
-ghost use Rattle.rec_base.specs.Causes.{Rose};
-ghost use Rattle.rec_base.specs.Contents.{IsOpened};
 ghost use Rattle.rec_base.specs.Known.{AppendsFront};
-ghost use Rattle.rec_base.specs.Moved.{HasFailed};
 ghost use Rattle.rec_base.specs.declared.name.Name.TheVariants.{File};
 ghost use Rattle.file_model.specs.declared.end.FileEnd.{FileEnd};
 ghost use Rattle.file_model.specs.declared.end.FileEnd.TheVariants.{ReadFault, SizeLimit};
@@ -13,7 +14,7 @@ ghost use Rattle.file_model.specs.Reader.{ChunkAt};
 ghost use Rattle.report_model.specs.Shown.{AreFirstLines, show_lines, printed_lines};
 ghost use Rattle.dock_calls.specs.Said.{SaysFault, SaysBehind};
 ghost use Rattle.file_call.specs.Files.{IsFileOf, IsFileFrom, IsOtherFile, IsToldOther};
-ghost use Rattle.file_call.specs.Statuses.{file_status, is_show_status, is_shown, shown_status};
+ghost use Rattle.file_call.specs.Statuses.{file_status, is_all_asked, is_all_said, is_show_status, is_shown, shown_status};
 
 use crate::fault::{OpenFault, ReportFault};
 use crate::open::open_file;
@@ -45,9 +46,8 @@ fn show<D: Dock>(alloc: Global, name: &Word, dock: &mut D) -> Result<Shown, Repo
         × IsFileOf D.Source.left D.Source.faults D.Source.mark (D.contents dock.old) name.now chunks SizeLimit
         × Appends (D.printed dock.old) (D.printed dock.new) (printed_lines (show_lines (chunks, SizeLimit))) }
     ensures not_xdf { IsErrOf result ReportFault.NotXdf → IsOtherFile D.Source.left (D.contents dock.old) name.now }
-    ensures open { IsErrOf result ReportFault.Open → Rose (D.open_faults dock.old) (D.open_faults dock.new)
-        ⊎ ((first : D.Source) × (last : D.Source) × IsOpened (D.contents dock.old) (File name.now) 0 (D.Source.left first)
-        × HasFailed D.Source.left D.Source.faults D.Source.mark first last) }
+    ensures open { IsErrOf result ReportFault.Open → FailsAt (D.asked dock.old) (D.asked dock.new) (input_order name.now) (D.open_faults dock.old) (D.open_faults dock.new)
+        ⊎ HasReadFault D.Source.left D.Source.faults D.Source.mark D.input_mark (D.contents dock.old) (D.marks dock.old) (File name.now) 0 }
     ensures say { IsErrOf result ReportFault.Say → Rose (D.print_faults dock.old) (D.print_faults dock.new)
         × (((lines : List (List ℕ)) × IsFileFrom AreFirstLines D.Source.left (D.contents dock.old) name.now lines
         × AppendsFront (D.printed dock.old) (D.printed dock.new) (printed_lines lines))
@@ -58,7 +58,11 @@ fn show<D: Dock>(alloc: Global, name: &Word, dock: &mut D) -> Result<Shown, Repo
         × Appends (D.printed dock.old) (D.printed dock.new) (printed_lines lines)) }
     ensures none_said { IsErrOf result ReportFault.NotXdf ⊎ IsErrOf result ReportFault.Open
         → (D.printed dock.new ≡ D.printed dock.old) × (D.print_faults dock.new ≡ D.print_faults dock.old) }
-    ensures later { D.print_faults dock.old ≤ D.print_faults dock.new }
+    ensures read_cause { IsErrOf result ReportFault.Read → HasReadFault D.Source.left D.Source.faults D.Source.mark D.input_mark (D.contents dock.old) (D.marks dock.old) (File name.now) 0 }
+    ensures asks { AsksFront (D.asked dock.old) (D.asked dock.new) (input_order name.now) }
+    ensures asks_all { (IsErrOf result ReportFault.Memory → ⊥) → AsksAll (D.asked dock.old) (D.asked dock.new) (input_order name.now) }
+    ensures opens { (IsErrOf result ReportFault.Open → ⊥) → D.open_faults dock.new ≡ D.open_faults dock.old }
+    ensures says { Blames (IsErrOf result ReportFault.Say) (D.print_faults dock.old) (D.print_faults dock.new) }
     ensures target { D.target dock.new ≡ D.target dock.old }
     ensures held { D.held dock.new ≡ D.held dock.old }
     ensures write_faults { D.write_faults dock.new ≡ D.write_faults dock.old }
@@ -88,11 +92,11 @@ pub(crate) fn show_status<D: Dock>(alloc: Global, name: &Word, dock: &mut D) -> 
         × Appends (D.printed dock.old) (D.printed dock.new) (printed_lines (show_lines (chunks, end))) }
     ensures not_xdf { result ≡ 3 → IsOtherFile D.Source.left (D.contents dock.old) name.now × IsToldOther (D.contents dock.old) name.now
         × SaysFault (D.printed dock.old) (D.printed dock.new) (D.print_faults dock.old) (D.print_faults dock.new) (codes "fault 3") }
-    ensures open_fault { result ≡ 4 → ((Rose (D.open_faults dock.old) (D.open_faults dock.new)
-        ⊎ ((first : D.Source) × (last : D.Source) × IsOpened (D.contents dock.old) (File name.now) 0 (D.Source.left first)
-        × HasFailed D.Source.left D.Source.faults D.Source.mark first last))
+    ensures open_fault { result ≡ 4 → ((FailsAt (D.asked dock.old) (D.asked dock.new) (input_order name.now) (D.open_faults dock.old) (D.open_faults dock.new)
+        ⊎ HasReadFault D.Source.left D.Source.faults D.Source.mark D.input_mark (D.contents dock.old) (D.marks dock.old) (File name.now) 0)
         × SaysBehind (D.printed dock.old) (D.printed dock.new) (D.print_faults dock.old) (D.print_faults dock.new) [] (codes "fault 4"))
-        ⊎ ((chunks : List ChunkAt) × IsFileOf D.Source.left D.Source.faults D.Source.mark (D.contents dock.old) name.now chunks ReadFault
+        ⊎ (HasReadFault D.Source.left D.Source.faults D.Source.mark D.input_mark (D.contents dock.old) (D.marks dock.old) (File name.now) 0
+        × (chunks : List ChunkAt) × IsFileOf D.Source.left D.Source.faults D.Source.mark (D.contents dock.old) name.now chunks ReadFault
         × SaysBehind (D.printed dock.old) (D.printed dock.new) (D.print_faults dock.old) (D.print_faults dock.new) (show_lines (chunks, ReadFault)) (codes "fault 4")) }
     ensures size_limit { result ≡ 7 → (chunks : List ChunkAt) × IsFileOf D.Source.left D.Source.faults D.Source.mark (D.contents dock.old) name.now chunks SizeLimit
         × SaysBehind (D.printed dock.old) (D.printed dock.new) (D.print_faults dock.old) (D.print_faults dock.new) (show_lines (chunks, SizeLimit)) (codes "fault 7") }
@@ -104,7 +108,9 @@ pub(crate) fn show_status<D: Dock>(alloc: Global, name: &Word, dock: &mut D) -> 
     ensures memory { result ≡ 9 → SaysBehind (D.printed dock.old) (D.printed dock.new) (D.print_faults dock.old) (D.print_faults dock.new) [] (codes "fault 9")
         ⊎ ((lines : List (List ℕ)) × IsFileFrom AreFirstLines D.Source.left (D.contents dock.old) name.now lines
         × SaysBehind (D.printed dock.old) (D.printed dock.new) (D.print_faults dock.old) (D.print_faults dock.new) lines (codes "fault 9")) }
-    ensures nothing_written { (D.target dock.new ≡ D.target dock.old) × (D.held dock.new ≡ D.held dock.old) × (D.write_faults dock.new ≡ D.write_faults dock.old) }
+    ensures nothing_written { (D.target dock.new ≡ D.target dock.old) × (D.held dock.new ≡ D.held dock.old) }
+    ensures caused { IsCaused (is_all_asked result) (is_all_said result) (input_order name.now) (D.asked dock.old) (D.asked dock.new) (D.open_faults dock.old) (D.open_faults dock.new)
+        (D.write_faults dock.old) (D.write_faults dock.new) (D.print_faults dock.old) (D.print_faults dock.new) result }
 {
     match show(alloc, name, dock) {
         Ok(Shown::Whole) => 0,

@@ -5,14 +5,14 @@ use Rattle.std.specs.List.{zip}
 use Rattle.std.proofs.lemmas.List.{take_all}
 use Rattle.rec_base.specs.declared.name.Name.{Name}
 use Rattle.rec_base.specs.declared.name.Name.TheVariants as name
-use Rattle.rec_base.specs.Contents.{Contents, Opens, IsInput, IsOpened}
-use Rattle.rec_base.specs.Moved.{HasFailed}
-use Rattle.dock_calls.specs.Places.{IsAfter}
-use Rattle.dock_calls.proofs.Places.{IsInput-at, IsOpened-at, IsOpened-first, IsAfter-opened}
+use Rattle.rec_base.specs.Contents.{Contents, Given, Opens, IsInput}
+use Rattle.dock_calls.specs.Asking.{HasReadFault}
+use Rattle.dock_calls.specs.Places.{place_of, IsAfter}
+use Rattle.dock_calls.proofs.Places.{IsInput-at, IsMarked-at, IsOpened-at, IsOpened-first, IsAfter-opened}
 use Rattle.plan_model.specs.declared.plan.FeedLine.{FeedLine}
 use Rattle.recording_model.specs.declared.stream.StreamDoc.{StreamDoc}
 use Rattle.run_model.specs.declared.feed.FeedSource.{FeedSource}
-use Rattle.record_call.specs.Feeds.{document_name, feed_input, feed_name, names_of, AreEach, IsStreamOf, IsNoDocument, IsNext, IsSourceOf, IsStreamRead, AreStreamsRead, HasNoStreamHere, HasFailedHere, IsSourceOpened, AreSourcesOpened}
+use Rattle.record_call.specs.Feeds.{document_name, feed_input, feed_name, names_of, AreEach, IsStreamOf, IsNoDocument, IsNext, IsSourceOf, IsStreamRead, AreStreamsRead, AreMarksLeft, HasNoStreamHere, HasFailedHere, IsSourceOpened, AreSourcesOpened}
 use Rattle.record_call.proofs.Lists.{take_next, parts_at}
 
 names_more : {F : Type 0} (opens : F → List Name) (feeds : List F) (feed : F) → names_of opens (feeds ++ feed ∷ []) ≡ names_of opens feeds ++ opens feed
@@ -44,6 +44,17 @@ each_length opens each names (f ∷ feeds) (y ∷ xs) all = ap suc (each_length 
 
 after_nil : (c d : Option Contents) (names : List Name) → IsAfter c d names → IsAfter c d (names ++ [])
 after_nil c d names after = let P : List Name → Type 0 = λ ns. IsAfter c d ns in subst P (sym (append-nil names)) after
+
+-- a read fault of a source, once these names were opened before it
+pub fault_at : {S M I : Type 0} (left_of : S → Option (List ℕ)) (faults_of : S → ℕ) (mark_of : S → M) (input_mark_of : S → I) (c d : Option Contents) (mc md : Option (Given I)) (names : List Name) (file : Name)
+    → IsAfter c d names → IsAfter mc md names → HasReadFault left_of faults_of mark_of input_mark_of d md file 0 → HasReadFault left_of faults_of mark_of input_mark_of c mc file (place_of names file)
+fault_at left_of faults_of mark_of input_mark_of c d mc md names file after marked fault = record {
+  first = fault.first;
+  last = fault.last;
+  source = IsOpened-at c d names file (left_of fault.first) after fault.source;
+  marked = IsMarked-at mc md names file (input_mark_of fault.first) marked fault.marked;
+  failed = fault.failed;
+}
 
 -- ---- header documents
 
@@ -108,17 +119,15 @@ no_stream a b feeds i streams feed id e so_far none = record {
   };
 }
 
-pub failed_here : {S M : Type 0} (left_of : S → Option (List ℕ)) (faults_of : S → ℕ) (mark_of : S → M) (a b : Option Contents) (feeds : List FeedLine) (i : ℕ) (streams : List StreamDoc) (feed : FeedLine) → Some feed ≡ slice_get feeds i
-    → AreStreamsRead a b (take i feeds) streams → (first : S) → (last : S) → IsOpened b (name.File feed.doc) 0 (left_of first) → HasFailed left_of faults_of mark_of first last → HasFailedHere left_of faults_of mark_of a feeds
-failed_here left_of faults_of mark_of a b feeds i streams feed e so_far first last opened failed = record {
-  is = λ contents names after. record {
+pub failed_here : {S M I : Type 0} (left_of : S → Option (List ℕ)) (faults_of : S → ℕ) (mark_of : S → M) (input_mark_of : S → I) (a b : Option Contents) (ma mb : Option (Given I)) (feeds : List FeedLine) (i : ℕ) (streams : List StreamDoc) (feed : FeedLine)
+    → Some feed ≡ slice_get feeds i → AreStreamsRead a b (take i feeds) streams → AreMarksLeft ma mb (names_of document_name (take i feeds))
+    → HasReadFault left_of faults_of mark_of input_mark_of b mb (name.File feed.doc) 0 → HasFailedHere left_of faults_of mark_of input_mark_of a ma feeds
+failed_here left_of faults_of mark_of input_mark_of a b ma mb feeds i streams feed e so_far marks_left fault = record {
+  is = λ contents marks names after marked. record {
     feed = feed;
     opened = names ++ names_of document_name (take i feeds);
     next = next_is a b contents names feeds i streams feed e so_far after;
-    first = first;
-    last = last;
-    source = IsOpened-at contents b _ (name.File feed.doc) (left_of first) (so_far.left contents names after) opened;
-    failed = failed;
+    failed = fault_at left_of faults_of mark_of input_mark_of contents b marks mb (names ++ names_of document_name (take i feeds)) (name.File feed.doc) (so_far.left contents names after) (marks_left.left marks names marked) fault;
   };
 }
 
@@ -153,7 +162,7 @@ sources_more left_of a b d feeds sources feed source so_far last = record {
 }
 
 -- a feed beside its stream
-beside : (feeds : List FeedLine) (streams : List StreamDoc) (i : ℕ) (feed : FeedLine) (stream : StreamDoc) → slice_get feeds i ≡ Some feed → slice_get streams i ≡ Some stream → slice_get (zip feeds streams) i ≡ Some (feed, stream)
+pub beside : (feeds : List FeedLine) (streams : List StreamDoc) (i : ℕ) (feed : FeedLine) (stream : StreamDoc) → slice_get feeds i ≡ Some feed → slice_get streams i ≡ Some stream → slice_get (zip feeds streams) i ≡ Some (feed, stream)
 beside [] streams i feed stream e h = absurd cc
 beside (f ∷ feeds) [] i feed stream e h = absurd cc
 beside (f ∷ feeds) (s ∷ streams) zero feed stream e h = let same : f ≡ feed = cc e in let also : s ≡ stream = cc h in cc (same, also)

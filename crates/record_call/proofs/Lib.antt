@@ -1,7 +1,9 @@
 pub mod Lists
-pub mod Errors
+pub mod Asking
 pub mod Commands
+pub mod Completes
 pub mod Feeds
+pub mod Orders
 pub mod Plans
 pub mod Records
 pub mod Said

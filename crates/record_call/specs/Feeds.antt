@@ -3,8 +3,8 @@
 use Rattle.std.specs.Prelude.{◌≡◌, ◌⊎◌, ℕ, ◌<◌, ◌≤◌, ⊤, List, [], ◌∷◌, ◌++◌, length, slice_get, Option, None, Some, Ok, IsErr}
 use Rattle.rec_base.specs.declared.name.Name.{Name}
 use Rattle.rec_base.specs.declared.name.Name.TheVariants as name
-use Rattle.rec_base.specs.Contents.{Contents, Opens}
-use Rattle.rec_base.specs.Moved.{HasFailed}
+use Rattle.rec_base.specs.Contents.{Contents, Given, Opens}
+use Rattle.dock_calls.specs.Asking.{HasReadFault}
 use Rattle.dock_calls.specs.Places.{place_of, IsInputAt, IsOpenedAt, IsAfter}
 use Rattle.reading_model.specs.Read.{IsReadingOf}
 use Rattle.xdf_model.specs.Sample.{Sample}
@@ -92,14 +92,11 @@ pub record HasNoStream (contents : Option Contents) (names : List Name) (feeds :
   pub none : IsNoDocument text
 
 -- a read of the header document of a feed failed, where the feeds before it have streams
-pub record HasFailedDocument {S M : Type 0} (left_of : S → Option (List ℕ)) (faults_of : S → ℕ) (mark_of : S → M) (contents : Option Contents) (names : List Name) (feeds : List FeedLine) : Type 0 where
+pub record HasFailedDocument {S M I : Type 0} (left_of : S → Option (List ℕ)) (faults_of : S → ℕ) (mark_of : S → M) (input_mark_of : S → I) (contents : Option Contents) (marks : Option (Given I)) (names : List Name) (feeds : List FeedLine) : Type 0 where
   pub feed : FeedLine
   pub opened : List Name
   pub next : IsNext contents names feeds feed opened
-  pub first : S
-  pub last : S
-  pub source : IsOpenedAt contents opened (name.File feed.doc) (left_of first)
-  pub failed : HasFailed left_of faults_of mark_of first last
+  pub failed : HasReadFault left_of faults_of mark_of input_mark_of contents marks (name.File feed.doc) (place_of opened (name.File feed.doc))
 
 -- ---- feeds
 
@@ -144,8 +141,13 @@ pub record AreStreamsRead (before now : Option Contents) (feeds : List FeedLine)
 pub record HasNoStreamHere (before : Option Contents) (feeds : List FeedLine) (id : ℕ) : Type 0 where
   pub is : (contents : Option Contents) (names : List Name) → IsAfter contents before names → HasNoStream contents names feeds id
 
-pub record HasFailedHere {S M : Type 0} (left_of : S → Option (List ℕ)) (faults_of : S → ℕ) (mark_of : S → M) (before : Option Contents) (feeds : List FeedLine) : Type 0 where
-  pub is : (contents : Option Contents) (names : List Name) → IsAfter contents before names → HasFailedDocument left_of faults_of mark_of contents names feeds
+pub record HasFailedHere {S M I : Type 0} (left_of : S → Option (List ℕ)) (faults_of : S → ℕ) (mark_of : S → M) (input_mark_of : S → I) (before : Option Contents) (marks_before : Option (Given I)) (feeds : List FeedLine) : Type 0 where
+  pub is : (contents : Option Contents) (marks : Option (Given I)) (names : List Name) → IsAfter contents before names → IsAfter marks marks_before names
+      → HasFailedDocument left_of faults_of mark_of input_mark_of contents marks names feeds
+
+-- the marks that are left, once these names were opened behind those before
+pub record AreMarksLeft {I : Type 0} (before now : Option (Given I)) (opened : List Name) : Type 0 where
+  pub left : (marks : Option (Given I)) (names : List Name) → IsAfter marks before names → IsAfter marks now (names ++ opened)
 
 -- a feed was opened
 pub record IsSourceOpened {S : Type 0} (left_of : S → Option (List ℕ)) (before now : Option Contents) (feed : FeedLine × StreamDoc) (source : FeedSource S) : Type 0 where

@@ -1,9 +1,9 @@
 -- The plan of a recording. This project's own.
 use Rattle.std.specs.Prelude.{◌≡◌, ℕ, List, [], Option, Ok, Err}
 use Rattle.rec_base.specs.declared.name.Name.TheVariants as name
-use Rattle.rec_base.specs.Contents.{Contents}
-use Rattle.rec_base.specs.Moved.{HasFailed}
-use Rattle.dock_calls.specs.Places.{IsInputAt, IsOpenedAt}
+use Rattle.rec_base.specs.Contents.{Contents, Given}
+use Rattle.dock_calls.specs.Asking.{HasReadFault}
+use Rattle.dock_calls.specs.Places.{IsInputAt}
 use Rattle.plan_model.specs.declared.top.Top.TheVariants.{Record}
 use Rattle.plan_model.specs.declared.plan.Plan.{Plan}
 use Rattle.plan_model.specs.Plan.{plan_in}
@@ -26,11 +26,8 @@ pub record IsRefused (contents : Option Contents) (words : List (List ℕ)) (lin
   pub refused : plan_in text out ≡ Err (line, why)
 
 -- the words ask to record what the plan at this path says, and a read of it failed
-pub record HasFailedPlan {S M : Type 0} (left_of : S → Option (List ℕ)) (faults_of : S → ℕ) (mark_of : S → M) (contents : Option Contents) (words : List (List ℕ)) : Type 0 where
+pub record HasFailedPlan {S M I : Type 0} (left_of : S → Option (List ℕ)) (faults_of : S → ℕ) (mark_of : S → M) (input_mark_of : S → I) (contents : Option Contents) (marks : Option (Given I)) (words : List (List ℕ)) : Type 0 where
   pub path : List ℕ
   pub out : List ℕ
   pub command : command_in Record words ≡ Ok (record_plan path out)
-  pub first : S
-  pub last : S
-  pub source : IsOpenedAt contents [] (name.File path) (left_of first)
-  pub failed : HasFailed left_of faults_of mark_of first last
+  pub failed : HasReadFault left_of faults_of mark_of input_mark_of contents marks (name.File path) 0

@@ -2,7 +2,7 @@
 use Rattle.std.specs.Prelude.{◌≡◌, ℕ, ◌<◌, ◌≤◌, List, [], ◌∷◌, length, map, Option}
 use Rattle.std.specs.List.{zip}
 use Rattle.rec_base.specs.declared.name.Name.TheVariants as name
-use Rattle.rec_base.specs.Contents.{Contents}
+use Rattle.rec_base.specs.Contents.{Contents, Given}
 use Rattle.rec_base.specs.Known.{Becomes}
 use Rattle.xdf_model.specs.Sample.{Sample}
 use Rattle.chunk_grammar.specs.declared.chunk.Chunk.{Chunk}
@@ -68,12 +68,12 @@ pub record HasNoDocument (contents : Option Contents) (words : List (List ℕ)) 
   pub none : HasNoStream contents (name.File path ∷ []) plan.feeds id
 
 -- a read of a header document of the plan failed
-pub record HasUnreadDocument {S M : Type 0} (left_of : S → Option (List ℕ)) (faults_of : S → ℕ) (mark_of : S → M) (contents : Option Contents) (words : List (List ℕ)) : Type 0 where
+pub record HasUnreadDocument {S M I : Type 0} (left_of : S → Option (List ℕ)) (faults_of : S → ℕ) (mark_of : S → M) (input_mark_of : S → I) (contents : Option Contents) (marks : Option (Given I)) (words : List (List ℕ)) : Type 0 where
   pub path : List ℕ
   pub out : List ℕ
   pub plan : Plan
   pub planned : IsPlanned contents words path out plan
-  pub failed : HasFailedDocument left_of faults_of mark_of contents (name.File path ∷ []) plan.feeds
+  pub failed : HasFailedDocument left_of faults_of mark_of input_mark_of contents marks (name.File path ∷ []) plan.feeds
 
 -- the recording of the plan that the words ask for: the chunks are the recording of its feeds in its mode, the feeds' sources were opened in order
 -- behind the documents, and where contents are told, what was received of each is what its text holds

@@ -18,3 +18,7 @@ has_plain_line n = n == 4 || n == 5 || n == 9
 
 abbrev pub plain_text : ℕ → List ℕ
 plain_text n = cond (n == 4) (codes "fault 4") (cond (n == 5) (codes "fault 5") (codes "fault 9"))
+
+-- all inputs were opened, and the output was created
+abbrev pub is_all_asked : ℕ → Bool
+is_all_asked n = n == 0 || n == 1 || n == 5 || n == 8

@@ -1,7 +1,10 @@
 //! What the words ask for: the plan with the header documents of its feeds.
 
 ghost use Rattle.std.specs.Prelude.{◌≡◌, ◌≤◌, ◌⊎◌, ◌∷◌, [], ℕ, List, IfOk, IsErr, IsErrOf, Ok};
-ghost use Rattle.rec_base.specs.Causes.{Rose};
+ghost use Rattle.dock_calls.specs.Asking.{FailsAt};
+ghost use Rattle.rec_base.specs.Asked.{AsksAll, AsksFront};
+ghost use Rattle.rec_base.specs.declared.asked.Asked.{Asked};
+ghost use Rattle.record_call.specs.Orders.{document_order, IsOrder};
 ghost use Rattle.rec_base.specs.declared.name.Name.{Name as NameValue};
 ghost use Rattle.dock_calls.specs.Places.{IsAfter};
 ghost use Rattle.plan_model.specs.declared.top.Top.TheVariants.{Record as top_record};
@@ -22,7 +25,7 @@ use std::alloc::Global;
 
 /// A plan, and the streams of its feeds.
 #[derive(Debug, Drop)]
-pub(crate) struct Asked {
+pub(crate) struct Wanted {
     pub(crate) plan: Plan,
     pub(crate) streams: Vec<StreamDoc>,
 }
@@ -35,7 +38,7 @@ pub(crate) fn read_asked<D: Dock>(
     dock: &mut D,
     path: &Word,
     out: &Word,
-) -> Result<Asked, RecordFault>
+) -> Result<Wanted, RecordFault>
     requires command { command_in top_record words.now ≡ Ok (record_plan path.now out.now) }
     ensures asked { IfOk result (λ asked. (a : IsAsked (D.contents dock.old) words.now out.now asked.plan asked.streams.items) × (a.has.path ≡ path.now)) }
     ensures after { IfOk result (λ asked. IsAfter (D.contents dock.old) (D.contents dock.new) (NameValue.File path.now ∷ names_of document_name asked.plan.feeds)) }
@@ -43,13 +46,16 @@ pub(crate) fn read_asked<D: Dock>(
     ensures refused { (line why : ℕ) → IsErrOf result (RecordFault.Plan line why) → IsRefused (D.contents dock.old) words.now line why }
     ensures none { (id : ℕ) → IsErrOf result (RecordFault.Document id) → HasNoDocument (D.contents dock.old) words.now id }
     ensures cost { (cost : ℕ) → IsErrOf result (RecordFault.Cost cost) → IsTooMuch (D.contents dock.old) words.now cost }
-    ensures failed { IsErrOf result RecordFault.Open → Rose (D.open_faults dock.old) (D.open_faults dock.new)
-        ⊎ HasFailedPlan D.Source.left D.Source.faults D.Source.mark (D.contents dock.old) words.now
-        ⊎ HasUnreadDocument D.Source.left D.Source.faults D.Source.mark (D.contents dock.old) words.now }
+    ensures failed { IsErrOf result RecordFault.Open → ((order : List Asked) × IsOrder (D.contents dock.old) words.now order × FailsAt (D.asked dock.old) (D.asked dock.new) order (D.open_faults dock.old) (D.open_faults dock.new))
+        ⊎ HasFailedPlan D.Source.left D.Source.faults D.Source.mark D.input_mark (D.contents dock.old) (D.marks dock.old) words.now
+        ⊎ HasUnreadDocument D.Source.left D.Source.faults D.Source.mark D.input_mark (D.contents dock.old) (D.marks dock.old) words.now }
     ensures none_else { IsErr result → IsErrOf result RecordFault.Open ⊎ IsErrOf result RecordFault.Memory
         ⊎ ((line : ℕ) × (why : ℕ) × IsErrOf result (RecordFault.Plan line why)) ⊎ ((id : ℕ) × IsErrOf result (RecordFault.Document id))
         ⊎ ((cost : ℕ) × IsErrOf result (RecordFault.Cost cost)) }
-    ensures later { D.open_faults dock.old ≤ D.open_faults dock.new }
+    ensures asks { (order : List Asked) × IsOrder (D.contents dock.old) words.now order × AsksFront (D.asked dock.old) (D.asked dock.new) order }
+    ensures asks_all { IfOk result (λ asked. AsksAll (D.asked dock.old) (D.asked dock.new) (document_order path.now asked.plan)) }
+    ensures quiet { (IsErrOf result RecordFault.Open → ⊥) → D.open_faults dock.new ≡ D.open_faults dock.old }
+    ensures write_faults { D.write_faults dock.new ≡ D.write_faults dock.old }
     ensures target { D.target dock.new ≡ D.target dock.old }
     ensures held { D.held dock.new ≡ D.held dock.old }
     ensures printed { D.printed dock.new ≡ D.printed dock.old }
@@ -58,5 +64,5 @@ pub(crate) fn read_asked<D: Dock>(
     let plan = open_plan(alloc, dock, path, out)?;
     let streams = open_streams(alloc, dock, &plan.feeds)?;
     check_cost(alloc, plan.ring, &streams)?;
-    Ok(Asked { plan, streams })
+    Ok(Wanted { plan, streams })
 }

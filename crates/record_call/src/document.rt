@@ -1,11 +1,11 @@
 //! The header documents of the feeds.
 
-ghost use Rattle.std.specs.Prelude.{◌≡◌, ◌≤◌, ◌⊎◌, List, ℕ, IfOk, IsErr, IsErrOf};
-ghost use Rattle.rec_base.specs.Causes.{Rose};
-ghost use Rattle.rec_base.specs.Contents.{IsInput, IsOpened};
-ghost use Rattle.rec_base.specs.Moved.{HasFailed};
+ghost use Rattle.std.specs.Prelude.{◌≡◌, ◌≤◌, ◌⊎◌, List, ℕ, IfOk, IsErr, IsErrOf, OnOk};
+ghost use Rattle.dock_calls.specs.Asking.{FailsAt, HasReadFault, openings};
+ghost use Rattle.rec_base.specs.Asked.{AsksAll, AsksFront};
+ghost use Rattle.rec_base.specs.Contents.{IsInput};
 ghost use Rattle.rec_base.specs.declared.name.Name.{Name as NameValue};
-ghost use Rattle.record_call.specs.Feeds.{IsStreamRead, IsNoDocument, AreStreamsRead, HasNoStreamHere, HasFailedHere};
+ghost use Rattle.record_call.specs.Feeds.{IsStreamRead, IsNoDocument, AreStreamsRead, HasNoStreamHere, HasFailedHere, document_name, names_of, AreMarksLeft};
 
 use crate::fault::RecordFault;
 use dock_calls::{InputFault, read_input};
@@ -27,11 +27,14 @@ fn open_stream<D: Dock>(
     ensures read { IfOk result (λ stream. IsStreamRead (D.contents dock.old) (D.contents dock.new) feed.now stream) }
     ensures none { (id : ℕ) → IsErrOf result (RecordFault.Document id) → (id ≡ feed.now.id)
         × (text : List ℕ) × IsInput (D.contents dock.old) (NameValue.File feed.now.doc) 0 text × IsNoDocument text }
-    ensures failed { IsErrOf result RecordFault.Open → Rose (D.open_faults dock.old) (D.open_faults dock.new)
-        ⊎ ((first : D.Source) × (last : D.Source) × IsOpened (D.contents dock.old) (NameValue.File feed.now.doc) 0 (D.Source.left first)
-        × HasFailed D.Source.left D.Source.faults D.Source.mark first last) }
+    ensures failed { IsErrOf result RecordFault.Open → FailsAt (D.asked dock.old) (D.asked dock.new) (openings (document_name feed.now)) (D.open_faults dock.old) (D.open_faults dock.new)
+        ⊎ HasReadFault D.Source.left D.Source.faults D.Source.mark D.input_mark (D.contents dock.old) (D.marks dock.old) (NameValue.File feed.now.doc) 0 }
     ensures none_else { IsErr result → IsErrOf result RecordFault.Open ⊎ IsErrOf result RecordFault.Memory ⊎ ((id : ℕ) × IsErrOf result (RecordFault.Document id)) }
-    ensures later { D.open_faults dock.old ≤ D.open_faults dock.new }
+    ensures marks { OnOk result (AreMarksLeft (D.marks dock.old) (D.marks dock.new) (document_name feed.now)) }
+    ensures asks { AsksFront (D.asked dock.old) (D.asked dock.new) (openings (document_name feed.now)) }
+    ensures asks_all { OnOk result (AsksAll (D.asked dock.old) (D.asked dock.new) (openings (document_name feed.now))) }
+    ensures quiet { (IsErrOf result RecordFault.Open → ⊥) → D.open_faults dock.new ≡ D.open_faults dock.old }
+    ensures write_faults { D.write_faults dock.new ≡ D.write_faults dock.old }
     ensures target { D.target dock.new ≡ D.target dock.old }
     ensures held { D.held dock.new ≡ D.held dock.old }
     ensures printed { D.printed dock.new ≡ D.printed dock.old }
@@ -61,10 +64,14 @@ pub(crate) fn open_streams<D: Dock>(
 ) -> Result<Vec<StreamDoc>, RecordFault>
     ensures read { IfOk result (λ streams. AreStreamsRead (D.contents dock.old) (D.contents dock.new) feeds.now streams.items) }
     ensures none { (id : ℕ) → IsErrOf result (RecordFault.Document id) → HasNoStreamHere (D.contents dock.old) feeds.now id }
-    ensures failed { IsErrOf result RecordFault.Open → Rose (D.open_faults dock.old) (D.open_faults dock.new)
-        ⊎ HasFailedHere D.Source.left D.Source.faults D.Source.mark (D.contents dock.old) feeds.now }
+    ensures failed { IsErrOf result RecordFault.Open → FailsAt (D.asked dock.old) (D.asked dock.new) (openings (names_of document_name feeds.now)) (D.open_faults dock.old) (D.open_faults dock.new)
+        ⊎ HasFailedHere D.Source.left D.Source.faults D.Source.mark D.input_mark (D.contents dock.old) (D.marks dock.old) feeds.now }
     ensures none_else { IsErr result → IsErrOf result RecordFault.Open ⊎ IsErrOf result RecordFault.Memory ⊎ ((id : ℕ) × IsErrOf result (RecordFault.Document id)) }
-    ensures later { D.open_faults dock.old ≤ D.open_faults dock.new }
+    ensures marks { OnOk result (AreMarksLeft (D.marks dock.old) (D.marks dock.new) (names_of document_name feeds.now)) }
+    ensures asks { AsksFront (D.asked dock.old) (D.asked dock.new) (openings (names_of document_name feeds.now)) }
+    ensures asks_all { OnOk result (AsksAll (D.asked dock.old) (D.asked dock.new) (openings (names_of document_name feeds.now))) }
+    ensures quiet { (IsErrOf result RecordFault.Open → ⊥) → D.open_faults dock.new ≡ D.open_faults dock.old }
+    ensures write_faults { D.write_faults dock.new ≡ D.write_faults dock.old }
     ensures target { D.target dock.new ≡ D.target dock.old }
     ensures held { D.held dock.new ≡ D.held dock.old }
     ensures printed { D.printed dock.new ≡ D.printed dock.old }

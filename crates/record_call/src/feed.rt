@@ -1,9 +1,10 @@
 //! The sources of the feeds.
 
-ghost use Rattle.std.specs.Prelude.{◌≡◌, ◌≤◌, ◌⊎◌, length, IfOk, IsErr, IsErrOf};
+ghost use Rattle.std.specs.Prelude.{◌≡◌, ◌≤◌, ◌⊎◌, length, IfOk, IsErr, IsErrOf, OnOk};
+ghost use Rattle.dock_calls.specs.Asking.{FailsAt, openings};
+ghost use Rattle.rec_base.specs.Asked.{AsksAll, AsksFront};
 ghost use Rattle.std.specs.List.{zip};
-ghost use Rattle.rec_base.specs.Causes.{Rose};
-ghost use Rattle.record_call.specs.Feeds.{IsSourceOpened, AreSourcesOpened, input_from, uid_from};
+ghost use Rattle.record_call.specs.Feeds.{IsSourceOpened, AreSourcesOpened, input_from, uid_from, feed_name, names_of};
 
 use crate::fault::RecordFault;
 use feed_reply::request_text;
@@ -55,9 +56,12 @@ fn open_feed<D: Dock>(
     stream: &StreamDoc,
 ) -> Result<FeedSource<D::Source>, RecordFault>
     ensures opened { IfOk result (λ source. IsSourceOpened D.Source.left (D.contents dock.old) (D.contents dock.new) (feed.now, stream.now) source) }
-    ensures failed { IsErrOf result RecordFault.Open → Rose (D.open_faults dock.old) (D.open_faults dock.new) }
+    ensures failed { IsErrOf result RecordFault.Open → FailsAt (D.asked dock.old) (D.asked dock.new) (openings (feed_name (feed.now, stream.now))) (D.open_faults dock.old) (D.open_faults dock.new) }
     ensures none_else { IsErr result → IsErrOf result RecordFault.Open ⊎ IsErrOf result RecordFault.Memory }
-    ensures later { D.open_faults dock.old ≤ D.open_faults dock.new }
+    ensures asks { AsksFront (D.asked dock.old) (D.asked dock.new) (openings (feed_name (feed.now, stream.now))) }
+    ensures asks_all { OnOk result (AsksAll (D.asked dock.old) (D.asked dock.new) (openings (feed_name (feed.now, stream.now)))) }
+    ensures quiet { (IsErrOf result RecordFault.Open → ⊥) → D.open_faults dock.new ≡ D.open_faults dock.old }
+    ensures write_faults { D.write_faults dock.new ≡ D.write_faults dock.old }
     ensures target { D.target dock.new ≡ D.target dock.old }
     ensures held { D.held dock.new ≡ D.held dock.old }
     ensures printed { D.printed dock.new ≡ D.printed dock.old }
@@ -84,9 +88,12 @@ pub(crate) fn open_feeds<D: Dock>(
 ) -> Result<Vec<FeedSource<D::Source>>, RecordFault>
     requires streams { length streams.now ≡ length feeds.now }
     ensures opened { IfOk result (λ sources. AreSourcesOpened D.Source.left (D.contents dock.old) (D.contents dock.new) (zip feeds.now streams.now) sources.items) }
-    ensures failed { IsErrOf result RecordFault.Open → Rose (D.open_faults dock.old) (D.open_faults dock.new) }
+    ensures failed { IsErrOf result RecordFault.Open → FailsAt (D.asked dock.old) (D.asked dock.new) (openings (names_of feed_name (zip feeds.now streams.now))) (D.open_faults dock.old) (D.open_faults dock.new) }
     ensures none_else { IsErr result → IsErrOf result RecordFault.Open ⊎ IsErrOf result RecordFault.Memory }
-    ensures later { D.open_faults dock.old ≤ D.open_faults dock.new }
+    ensures asks { AsksFront (D.asked dock.old) (D.asked dock.new) (openings (names_of feed_name (zip feeds.now streams.now))) }
+    ensures asks_all { OnOk result (AsksAll (D.asked dock.old) (D.asked dock.new) (openings (names_of feed_name (zip feeds.now streams.now)))) }
+    ensures quiet { (IsErrOf result RecordFault.Open → ⊥) → D.open_faults dock.new ≡ D.open_faults dock.old }
+    ensures write_faults { D.write_faults dock.new ≡ D.write_faults dock.old }
     ensures target { D.target dock.new ≡ D.target dock.old }
     ensures held { D.held dock.new ≡ D.held dock.old }
     ensures printed { D.printed dock.new ≡ D.printed dock.old }

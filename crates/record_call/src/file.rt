@@ -1,7 +1,11 @@
 //! The file of a recording, from the words to its last byte.
 
-ghost use Rattle.std.specs.Prelude.{◌≡◌, ◌≤◌, ◌⊎◌, ℕ, IfOk, IsErr, IsErrOf, IsTrue, Err};
-ghost use Rattle.rec_base.specs.Causes.{Rose};
+ghost use Rattle.std.specs.Prelude.{◌≡◌, List, ◌≤◌, ◌⊎◌, ℕ, IfOk, IsErr, IsErrOf, IsTrue, Err};
+ghost use Rattle.dock_calls.specs.Asking.{FailsAt};
+ghost use Rattle.rec_base.specs.Asked.{AsksAll, AsksFront};
+ghost use Rattle.rec_base.specs.declared.asked.Asked.{Asked};
+ghost use Rattle.record_call.specs.Orders.{IsOrder, IsWholeOrder};
+ghost use Rattle.rec_base.specs.Causes.{Blames, Rose};
 ghost use Rattle.plan_model.specs.declared.top.Top.TheVariants.{Record as top_record};
 ghost use Rattle.plan_model.specs.Commands.{command_in};
 ghost use Rattle.dock_calls.specs.Said.{is_usage};
@@ -32,9 +36,9 @@ pub(crate) fn write_file<D: Dock, R: Threads + Wait + Clock + Sync>(
     ensures refused { (line why : ℕ) → IsErrOf result (RecordFault.Plan line why) → IsRefused (D.contents dock.old) words.now line why }
     ensures none { (id : ℕ) → IsErrOf result (RecordFault.Document id) → HasNoDocument (D.contents dock.old) words.now id }
     ensures cost { (cost : ℕ) → IsErrOf result (RecordFault.Cost cost) → IsTooMuch (D.contents dock.old) words.now cost }
-    ensures failed { IsErrOf result RecordFault.Open → Rose (D.open_faults dock.old) (D.open_faults dock.new)
-        ⊎ HasFailedPlan D.Source.left D.Source.faults D.Source.mark (D.contents dock.old) words.now
-        ⊎ HasUnreadDocument D.Source.left D.Source.faults D.Source.mark (D.contents dock.old) words.now }
+    ensures failed { IsErrOf result RecordFault.Open → ((order : List Asked) × IsOrder (D.contents dock.old) words.now order × FailsAt (D.asked dock.old) (D.asked dock.new) order (D.open_faults dock.old) (D.open_faults dock.new))
+        ⊎ HasFailedPlan D.Source.left D.Source.faults D.Source.mark D.input_mark (D.contents dock.old) (D.marks dock.old) words.now
+        ⊎ HasUnreadDocument D.Source.left D.Source.faults D.Source.mark D.input_mark (D.contents dock.old) (D.marks dock.old) words.now }
     ensures not_written { IsErrOf result RecordFault.Write → (c : IsCutFile (D.contents dock.old) words.now (D.target dock.old) (D.target dock.new) (D.held dock.old) (D.held dock.new))
         × (created : D) × IsCreated (D.target dock.old) (D.target created) (D.held dock.old) (D.held created) c.out
         × Rose (D.write_faults created) (D.write_faults dock.new) }
@@ -44,6 +48,10 @@ pub(crate) fn write_file<D: Dock, R: Threads + Wait + Clock + Sync>(
         ⊎ HasTexts (D.contents dock.old) words.now }
     ensures no_file { IsErr result → IsErrOf result RecordFault.Write ⊎ IsErrOf result RecordFault.Memory
         ⊎ ((D.target dock.new ≡ D.target dock.old) × (D.held dock.new ≡ D.held dock.old)) }
+    ensures asks { (order : List Asked) × IsOrder (D.contents dock.old) words.now order × AsksFront (D.asked dock.old) (D.asked dock.new) order }
+    ensures asks_all { (IsErr result → IsErrOf result RecordFault.Write) → (order : List Asked) × IsWholeOrder (D.contents dock.old) words.now order × AsksAll (D.asked dock.old) (D.asked dock.new) order }
+    ensures quiet { (IsErrOf result RecordFault.Open → ⊥) → D.open_faults dock.new ≡ D.open_faults dock.old }
+    ensures writes { Blames (IsErrOf result RecordFault.Write) (D.write_faults dock.old) (D.write_faults dock.new) }
     ensures no_say { IsErrOf result RecordFault.Say → ⊥ }
     ensures printed { D.printed dock.new ≡ D.printed dock.old }
     ensures print_faults { D.print_faults dock.new ≡ D.print_faults dock.old }

@@ -91,9 +91,9 @@ impl Sink for LiveDock<'_> {
 
     ghost write_faults = { λ _. 0 };
 
-    ghost Rest = { BesideSink };
+    ghost Rest = { BesideSink (Unit {0}) };
 
-    ghost rest = { λ d. record { contents = None; target = None; printed = None; open_faults = d.open_faults; print_faults = 0 } };
+    ghost rest = { λ d. record { contents = None; marks = None; asked = None; target = None; printed = None; open_faults = d.open_faults; print_faults = 0 } };
 
     fn write(&mut self, bytes: &[u8]) -> Result<usize, Failed> {
         Ok(bytes.len())
@@ -108,9 +108,9 @@ impl Lines for LiveDock<'_> {
 
     ghost print_faults = { λ _. 0 };
 
-    ghost Rest = { BesideLines };
+    ghost Rest = { BesideLines (Unit {0}) };
 
-    ghost rest = { λ d. record { contents = None; target = None; held = None; open_faults = d.open_faults; write_faults = 0 } };
+    ghost rest = { λ d. record { contents = None; marks = None; asked = None; target = None; held = None; open_faults = d.open_faults; write_faults = 0 } };
 
     fn say(&mut self, line: &str) -> Result<(), Failed> {
         if line.ends_with(" received 3 kept 3 lost 0 end whole") {
@@ -128,6 +128,12 @@ impl<'a> Dock for LiveDock<'a> {
     type Source = Waiting<'a>;
 
     ghost contents = { λ _. None };
+
+    ghost input_mark = { λ _. tt };
+
+    ghost marks = { λ _. None };
+
+    ghost asked = { λ _. None };
 
     ghost target = { λ _. None };
 
@@ -154,23 +160,33 @@ impl<'a> Dock for LiveDock<'a> {
         Ok(())
     }
 
+    ghost mark_keeps_input_mark = { λ s t h. refl };
+
     ghost write_keeps_contents = { λ d e h. refl };
+
+    ghost write_keeps_marks = { λ d e h. refl };
+
+    ghost write_keeps_asked = { λ d e h. refl };
 
     ghost write_keeps_target = { λ d e h. refl };
 
     ghost write_keeps_printed = { λ d e h. refl };
 
-    ghost write_keeps_open_faults = { λ d e h. ap (λ (r : BesideSink). r.open_faults) h };
+    ghost write_keeps_open_faults = { λ d e h. ap (λ (r : BesideSink (Unit {0})). r.open_faults) h };
 
     ghost write_keeps_print_faults = { λ d e h. refl };
 
     ghost say_keeps_contents = { λ d e h. refl };
 
+    ghost say_keeps_marks = { λ d e h. refl };
+
+    ghost say_keeps_asked = { λ d e h. refl };
+
     ghost say_keeps_target = { λ d e h. refl };
 
     ghost say_keeps_held = { λ d e h. refl };
 
-    ghost say_keeps_open_faults = { λ d e h. ap (λ (r : BesideLines). r.open_faults) h };
+    ghost say_keeps_open_faults = { λ d e h. ap (λ (r : BesideLines (Unit {0})). r.open_faults) h };
 
     ghost say_keeps_write_faults = { λ d e h. refl };
 }

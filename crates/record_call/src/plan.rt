@@ -1,9 +1,11 @@
 //! The plan of a recording.
 
-ghost use Rattle.std.specs.Prelude.{◌≡◌, ◌≤◌, ◌⊎◌, List, ℕ, [], IfOk, IsErr, IsErrOf, Ok, Err, Some};
-ghost use Rattle.rec_base.specs.Causes.{Rose};
-ghost use Rattle.rec_base.specs.Contents.{Opens, IsInput, IsOpened};
-ghost use Rattle.rec_base.specs.Moved.{HasFailed};
+ghost use Rattle.std.specs.Prelude.{◌≡◌, ◌≤◌, ◌⊎◌, List, ℕ, [], IfOk, IsErr, IsErrOf, Ok, Err, Some, OnOk, ◌∷◌};
+ghost use Rattle.dock_calls.specs.Asking.{FailsAt, HasReadFault};
+ghost use Rattle.rec_base.specs.Asked.{AsksAll, AsksFront};
+ghost use Rattle.record_call.specs.Orders.{plan_order};
+ghost use Rattle.record_call.specs.Feeds.{AreMarksLeft};
+ghost use Rattle.rec_base.specs.Contents.{Opens, IsInput};
 ghost use Rattle.rec_base.specs.declared.name.Name.{Name as NameValue};
 ghost use Rattle.plan_model.specs.Plan.{plan_in};
 ghost use Rattle.plan_model.specs.Sound.{IsPlan};
@@ -45,11 +47,14 @@ pub(crate) fn open_plan<D: Dock>(
     ensures sound { IfOk result (λ plan. IsPlan out.now plan) }
     ensures refused { (line why : ℕ) → IsErrOf result (RecordFault.Plan line why) → (text : List ℕ) × IsInput (D.contents dock.old) (NameValue.File path.now) 0 text
         × (plan_in text out.now ≡ Err (line, why)) }
-    ensures failed { IsErrOf result RecordFault.Open → Rose (D.open_faults dock.old) (D.open_faults dock.new)
-        ⊎ ((first : D.Source) × (last : D.Source) × IsOpened (D.contents dock.old) (NameValue.File path.now) 0 (D.Source.left first)
-        × HasFailed D.Source.left D.Source.faults D.Source.mark first last) }
+    ensures failed { IsErrOf result RecordFault.Open → FailsAt (D.asked dock.old) (D.asked dock.new) (plan_order path.now) (D.open_faults dock.old) (D.open_faults dock.new)
+        ⊎ HasReadFault D.Source.left D.Source.faults D.Source.mark D.input_mark (D.contents dock.old) (D.marks dock.old) (NameValue.File path.now) 0 }
     ensures none_else { IsErr result → IsErrOf result RecordFault.Open ⊎ IsErrOf result RecordFault.Memory ⊎ ((line : ℕ) × (why : ℕ) × IsErrOf result (RecordFault.Plan line why)) }
-    ensures later { D.open_faults dock.old ≤ D.open_faults dock.new }
+    ensures marks { OnOk result (AreMarksLeft (D.marks dock.old) (D.marks dock.new) (NameValue.File path.now ∷ [])) }
+    ensures asks { AsksFront (D.asked dock.old) (D.asked dock.new) (plan_order path.now) }
+    ensures asks_all { OnOk result (AsksAll (D.asked dock.old) (D.asked dock.new) (plan_order path.now)) }
+    ensures quiet { (IsErrOf result RecordFault.Open → ⊥) → D.open_faults dock.new ≡ D.open_faults dock.old }
+    ensures write_faults { D.write_faults dock.new ≡ D.write_faults dock.old }
     ensures target { D.target dock.new ≡ D.target dock.old }
     ensures held { D.held dock.new ≡ D.held dock.old }
     ensures printed { D.printed dock.new ≡ D.printed dock.old }

@@ -1,14 +1,17 @@
 //! A recording that is ready to be run: all its inputs are open.
 
-ghost use Rattle.std.specs.Prelude.{◌≡◌, ◌≤◌, ◌⊎◌, ℕ, IfOk, IsErr, IsErrOf, Err, IsTrue};
-ghost use Rattle.rec_base.specs.Causes.{Rose};
+ghost use Rattle.std.specs.Prelude.{◌≡◌, List, ◌≤◌, ◌⊎◌, ℕ, IfOk, IsErr, IsErrOf, Err, IsTrue};
+ghost use Rattle.dock_calls.specs.Asking.{FailsAt};
+ghost use Rattle.rec_base.specs.Asked.{AsksAll, AsksFront};
+ghost use Rattle.rec_base.specs.declared.asked.Asked.{Asked};
+ghost use Rattle.record_call.specs.Orders.{IsOrder, IsInputOrder};
 ghost use Rattle.plan_model.specs.declared.top.Top.TheVariants.{Record as top_record};
 ghost use Rattle.plan_model.specs.Commands.{command_in};
 ghost use Rattle.dock_calls.specs.Said.{is_usage};
 ghost use Rattle.record_call.specs.Plans.{IsRefused, HasFailedPlan};
 ghost use Rattle.record_call.specs.Recorded.{IsReady, IsTooMuch, HasNoDocument, HasUnreadDocument};
 
-use crate::ask::{Asked, read_asked};
+use crate::ask::{Wanted, read_asked};
 use crate::fault::RecordFault;
 use crate::feed::open_feeds;
 use crate::run::Settings;
@@ -40,12 +43,15 @@ pub(crate) fn make_ready<'w, D: Dock>(
     ensures refused { (line why : ℕ) → IsErrOf result (RecordFault.Plan line why) → IsRefused (D.contents dock.old) words.now line why }
     ensures none { (id : ℕ) → IsErrOf result (RecordFault.Document id) → HasNoDocument (D.contents dock.old) words.now id }
     ensures cost { (cost : ℕ) → IsErrOf result (RecordFault.Cost cost) → IsTooMuch (D.contents dock.old) words.now cost }
-    ensures failed { IsErrOf result RecordFault.Open → Rose (D.open_faults dock.old) (D.open_faults dock.new)
-        ⊎ HasFailedPlan D.Source.left D.Source.faults D.Source.mark (D.contents dock.old) words.now
-        ⊎ HasUnreadDocument D.Source.left D.Source.faults D.Source.mark (D.contents dock.old) words.now }
+    ensures failed { IsErrOf result RecordFault.Open → ((order : List Asked) × IsOrder (D.contents dock.old) words.now order × FailsAt (D.asked dock.old) (D.asked dock.new) order (D.open_faults dock.old) (D.open_faults dock.new))
+        ⊎ HasFailedPlan D.Source.left D.Source.faults D.Source.mark D.input_mark (D.contents dock.old) (D.marks dock.old) words.now
+        ⊎ HasUnreadDocument D.Source.left D.Source.faults D.Source.mark D.input_mark (D.contents dock.old) (D.marks dock.old) words.now }
     ensures no_write { IsErrOf result RecordFault.Write → ⊥ }
     ensures no_say { IsErrOf result RecordFault.Say → ⊥ }
-    ensures later { D.open_faults dock.old ≤ D.open_faults dock.new }
+    ensures asks { (order : List Asked) × IsOrder (D.contents dock.old) words.now order × AsksFront (D.asked dock.old) (D.asked dock.new) order }
+    ensures asks_all { IfOk result (λ r. (inputs : List Asked) × IsInputOrder (D.contents dock.old) words.now r.out.now inputs × AsksAll (D.asked dock.old) (D.asked dock.new) inputs) }
+    ensures quiet { (IsErrOf result RecordFault.Open → ⊥) → D.open_faults dock.new ≡ D.open_faults dock.old }
+    ensures write_faults { D.write_faults dock.new ≡ D.write_faults dock.old }
     ensures target { D.target dock.new ≡ D.target dock.old }
     ensures held { D.held dock.new ≡ D.held dock.old }
     ensures printed { D.printed dock.new ≡ D.printed dock.old }
@@ -55,7 +61,7 @@ pub(crate) fn make_ready<'w, D: Dock>(
         Ok(names) => names,
         Err(usage) => return Err(RecordFault::Usage(usage.why)),
     };
-    let Asked { plan, streams } = read_asked(alloc, words, dock, path, out)?;
+    let Wanted { plan, streams } = read_asked(alloc, words, dock, path, out)?;
     let feeds = open_feeds(alloc, dock, &plan.feeds, &streams)?;
     let settings = Settings {
         mode: plan.mode,

@@ -1,9 +1,13 @@
 //! The top call.
 
-ghost use Rattle.std.specs.Prelude.{◌≡◌, ◌≤◌, ◌⊎◌, ◌↔◌, ℕ, List, map, IfOk, IsErr, IsErrOf, IsTrue, Err};
+ghost use Rattle.std.specs.Prelude.{◌≡◌, ◌≤◌, ◌⊎◌, ◌↔◌, ℕ, List, map, false, IfOk, IsErr, IsErrOf, IsTrue, Err};
+ghost use Rattle.dock_calls.specs.Asking.{FailsAt, IsCaused};
+ghost use Rattle.rec_base.specs.Asked.{AsksAll, AsksFront};
+ghost use Rattle.rec_base.specs.declared.asked.Asked.{Asked};
+ghost use Rattle.record_call.specs.Orders.{IsOrder, IsWholeOrder};
+ghost use Rattle.rec_base.specs.Causes.{Blames, Rose};
 ghost use Rattle.std.specs.List.{list_all};
 ghost use Rattle.std.specs.Io.KnownBytes.{Appends};
-ghost use Rattle.rec_base.specs.Causes.{Rose};
 ghost use Rattle.rec_base.specs.Known.{AppendsFront};
 ghost use Rattle.chunk_grammar.specs.declared.chunk.Chunk.{Chunk as ChunkValue};
 ghost use Rattle.plan_model.specs.declared.top.Top.TheVariants.{Record as top_record};
@@ -11,11 +15,12 @@ ghost use Rattle.plan_model.specs.Commands.{command_in};
 ghost use Rattle.report_model.specs.Shown.{printed_lines};
 ghost use Rattle.dock_calls.specs.Said.{SaysFault, is_usage};
 ghost use Rattle.run_model.specs.Run.{Fed};
+ghost use Rattle.record_call.specs.Completed.{CompletesRecord};
 ghost use Rattle.record_call.specs.Ends.{is_complete, record_status};
 ghost use Rattle.record_call.specs.Lines.{usage_text, plan_text, document_text, cost_text};
 ghost use Rattle.record_call.specs.Plans.{IsRefused, HasFailedPlan};
 ghost use Rattle.record_call.specs.Recorded.{IsFileOf, IsCreated, IsCutFile, IsTooMuch, HasNoDocument, HasTexts, HasUnreadDocument, lines_of};
-ghost use Rattle.record_call.specs.Statuses.{is_status, is_recorded, is_without_file, has_plain_line, plain_text};
+ghost use Rattle.record_call.specs.Statuses.{is_all_asked, is_status, is_recorded, is_without_file, has_plain_line, plain_text};
 
 use crate::end::are_complete;
 use crate::fault::RecordFault;
@@ -47,9 +52,9 @@ fn record<D: Dock, R: Threads + Wait + Clock + Sync>(
     ensures refused { (line why : ℕ) → IsErrOf result (RecordFault.Plan line why) → IsRefused (D.contents dock.old) words.now line why }
     ensures none { (id : ℕ) → IsErrOf result (RecordFault.Document id) → HasNoDocument (D.contents dock.old) words.now id }
     ensures cost { (cost : ℕ) → IsErrOf result (RecordFault.Cost cost) → IsTooMuch (D.contents dock.old) words.now cost }
-    ensures failed { IsErrOf result RecordFault.Open → Rose (D.open_faults dock.old) (D.open_faults dock.new)
-        ⊎ HasFailedPlan D.Source.left D.Source.faults D.Source.mark (D.contents dock.old) words.now
-        ⊎ HasUnreadDocument D.Source.left D.Source.faults D.Source.mark (D.contents dock.old) words.now }
+    ensures failed { IsErrOf result RecordFault.Open → ((order : List Asked) × IsOrder (D.contents dock.old) words.now order × FailsAt (D.asked dock.old) (D.asked dock.new) order (D.open_faults dock.old) (D.open_faults dock.new))
+        ⊎ HasFailedPlan D.Source.left D.Source.faults D.Source.mark D.input_mark (D.contents dock.old) (D.marks dock.old) words.now
+        ⊎ HasUnreadDocument D.Source.left D.Source.faults D.Source.mark D.input_mark (D.contents dock.old) (D.marks dock.old) words.now }
     ensures not_written { IsErrOf result RecordFault.Write → (c : IsCutFile (D.contents dock.old) words.now (D.target dock.old) (D.target dock.new) (D.held dock.old) (D.held dock.new))
         × (created : D) × IsCreated (D.target dock.old) (D.target created) (D.held dock.old) (D.held created) c.out
         × Rose (D.write_faults created) (D.write_faults dock.new) }
@@ -63,6 +68,11 @@ fn record<D: Dock, R: Threads + Wait + Clock + Sync>(
         ⊎ HasTexts (D.contents dock.old) words.now
         ⊎ ((fed : List (Fed D.Source)) × (chunks : List ChunkValue)
         × IsFileOf D.Source.left D.Source.faults D.Source.mark (D.contents dock.old) words.now (D.target dock.old) (D.target dock.new) (D.held dock.old) (D.held dock.new) fed chunks) }
+    ensures asks { (order : List Asked) × IsOrder (D.contents dock.old) words.now order × AsksFront (D.asked dock.old) (D.asked dock.new) order }
+    ensures asks_all { (IsErr result → IsErrOf result RecordFault.Write ⊎ IsErrOf result RecordFault.Say) → (order : List Asked) × IsWholeOrder (D.contents dock.old) words.now order × AsksAll (D.asked dock.old) (D.asked dock.new) order }
+    ensures quiet { (IsErrOf result RecordFault.Open → ⊥) → D.open_faults dock.new ≡ D.open_faults dock.old }
+    ensures writes { Blames (IsErrOf result RecordFault.Write) (D.write_faults dock.old) (D.write_faults dock.new) }
+    ensures says { Blames (IsErrOf result RecordFault.Say) (D.print_faults dock.old) (D.print_faults dock.new) }
     ensures no_file { IsErr result → IsErrOf result RecordFault.Write ⊎ IsErrOf result RecordFault.Memory ⊎ IsErrOf result RecordFault.Say
         ⊎ ((D.target dock.new ≡ D.target dock.old) × (D.held dock.new ≡ D.held dock.old)) }
     ensures none_said { IsErr result → IsErrOf result RecordFault.Say
@@ -118,6 +128,12 @@ pub fn record_main<D: Dock, R: Threads + Wait + Clock + Sync>(
 ) -> u8
     ensures statuses { IsTrue (is_status result) }
 
+    // What was asked for is a front of the order above, as far as what was read tells it; and which counts rose.
+    ensures caused { (order : List Asked) × IsOrder (D.contents dock.old) words.now order
+        × IsCaused false (is_recorded result) order (D.asked dock.old) (D.asked dock.new) (D.open_faults dock.old) (D.open_faults dock.new)
+        (D.write_faults dock.old) (D.write_faults dock.new) (D.print_faults dock.old) (D.print_faults dock.new) result }
+    ensures all_asked { IsTrue (is_all_asked result) → (order : List Asked) × IsWholeOrder (D.contents dock.old) words.now order × AsksAll (D.asked dock.old) (D.asked dock.new) order }
+
     // The file is exactly the feeds' samples without those that its ledger names, as many as the rings counted. How the feeds ended decides
     // between 0 and 1.
     ensures recorded { IsTrue (is_recorded result) → (fed : List (Fed D.Source)) × (chunks : List ChunkValue)
@@ -133,9 +149,9 @@ pub fn record_main<D: Dock, R: Threads + Wait + Clock + Sync>(
         × SaysFault (D.printed dock.old) (D.printed dock.new) (D.print_faults dock.old) (D.print_faults dock.new) (plan_text line why) }
 
     // an opening or the creation failed, or a read of the plan or of a header document
-    ensures open_fault { result ≡ 4 → Rose (D.open_faults dock.old) (D.open_faults dock.new)
-        ⊎ HasFailedPlan D.Source.left D.Source.faults D.Source.mark (D.contents dock.old) words.now
-        ⊎ HasUnreadDocument D.Source.left D.Source.faults D.Source.mark (D.contents dock.old) words.now }
+    ensures open_fault { result ≡ 4 → ((order : List Asked) × IsOrder (D.contents dock.old) words.now order × FailsAt (D.asked dock.old) (D.asked dock.new) order (D.open_faults dock.old) (D.open_faults dock.new))
+        ⊎ HasFailedPlan D.Source.left D.Source.faults D.Source.mark D.input_mark (D.contents dock.old) (D.marks dock.old) words.now
+        ⊎ HasUnreadDocument D.Source.left D.Source.faults D.Source.mark D.input_mark (D.contents dock.old) (D.marks dock.old) words.now }
 
     // a write failed after the output was created, and what a recording of the feeds holds that was stopped somewhere is in it
     ensures write_fault { result ≡ 5 → (c : IsCutFile (D.contents dock.old) words.now (D.target dock.old) (D.target dock.new) (D.held dock.old) (D.held dock.new))
@@ -163,6 +179,10 @@ pub fn record_main<D: Dock, R: Threads + Wait + Clock + Sync>(
         ⊎ HasTexts (D.contents dock.old) words.now
         ⊎ ((fed : List (Fed D.Source)) × (chunks : List ChunkValue)
         × IsFileOf D.Source.left D.Source.faults D.Source.mark (D.contents dock.old) words.now (D.target dock.old) (D.target dock.new) (D.held dock.old) (D.held dock.new) fed chunks) }
+
+    // where the plan and its documents are good, and nothing of the outside failed, the recording is done, or there was no memory
+    ensures completes { CompletesRecord D.Source.left D.Source.faults D.Source.mark D.input_mark (D.contents dock.old) (D.marks dock.old) words.now (D.open_faults dock.old) (D.open_faults dock.new)
+        (D.write_faults dock.old) (D.write_faults dock.new) (D.print_faults dock.old) (D.print_faults dock.new) result }
 
     ensures no_file { IsTrue (is_without_file result) → (D.target dock.new ≡ D.target dock.old) × (D.held dock.new ≡ D.held dock.old) }
 

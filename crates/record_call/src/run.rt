@@ -1,8 +1,11 @@
 //! The run of a recording, into an output that is created for it.
 
-ghost use Rattle.std.specs.Prelude.{◌≡◌, ◌≢◌, ◌≤◌, ◌⊎◌, ℕ, List, length, IfOk, IsErr, IsErrOf};
+ghost use Rattle.std.specs.Prelude.{◌≡◌, ◌≢◌, ◌≤◌, ◌⊎◌, ℕ, List, length, IfOk, IsErr, IsErrOf, ◌∷◌, []};
+ghost use Rattle.dock_calls.specs.Asking.{FailsAt};
+ghost use Rattle.rec_base.specs.Asked.{AsksAll, AsksFront};
+ghost use Rattle.rec_base.specs.declared.asked.Asked.TheVariants.{Creation};
+ghost use Rattle.rec_base.specs.Causes.{Blames, Rose};
 ghost use Rattle.std.specs.List.{AllByRecursion};
-ghost use Rattle.rec_base.specs.Causes.{Rose};
 ghost use Rattle.recording_model.specs.Recording.{AreStreams};
 ghost use Rattle.recording_model.specs.declared.stream.StreamDoc.{StreamDoc as StreamValue};
 ghost use Rattle.run_model.specs.Fitting.{AreNumbers};
@@ -52,7 +55,7 @@ fn run<S: Source + Send + Drop, K: Sink, R: Threads + Wait + Clock + Sync>(
         → IsStopped S.left streams feeds (K.held sink.old) (K.held sink.new) result }
     ensures memory { (ring batch : ℕ) (streams : List StreamValue) (feeds : List (FeedValue S)) → IsOpenFor mode ring batch streams feeds recorder
         → AreNumbers streams → result ≢ Outcome.Memory }
-    ensures cause { result ≡ Outcome.WriteFault → Rose (K.write_faults sink.old) (K.write_faults sink.new) }
+    ensures cause { Blames (result ≡ Outcome.WriteFault) (K.write_faults sink.old) (K.write_faults sink.new) }
     ensures rest { K.rest sink.new ≡ K.rest sink.old }
 {
     match mode {
@@ -82,7 +85,7 @@ pub(crate) fn record_feeds<D: Dock, R: Threads + Wait + Clock + Sync>(
     requires feeds { length feeds.items ≡ length streams.items }
     ensures written { IfOk result (λ w. IsWritten D.Source.left D.Source.faults D.Source.mark settings.mode settings.ring settings.batch streams.items feeds.items out.now
         (D.target dock.old) (D.target dock.new) (D.held dock.old) (D.held dock.new) w.reports w.bytes w.chunks) }
-    ensures not_created { IsErrOf result RecordFault.Open → Rose (D.open_faults dock.old) (D.open_faults dock.new)
+    ensures not_created { IsErrOf result RecordFault.Open → FailsAt (D.asked dock.old) (D.asked dock.new) (Creation out.now ∷ []) (D.open_faults dock.old) (D.open_faults dock.new)
         × (D.target dock.new ≡ D.target dock.old) × (D.held dock.new ≡ D.held dock.old) }
     ensures not_written { IsErrOf result RecordFault.Write → (created : D)
         × IsCreated (D.target dock.old) (D.target created) (D.held dock.old) (D.held created) out.now
@@ -93,7 +96,10 @@ pub(crate) fn record_feeds<D: Dock, R: Threads + Wait + Clock + Sync>(
     ensures numbers { IsErrOf result RecordFault.Memory → ((D.target dock.new ≡ D.target dock.old) × (D.held dock.new ≡ D.held dock.old))
         ⊎ (AreNumbers streams.items → ⊥) }
     ensures none_else { IsErr result → IsErrOf result RecordFault.Open ⊎ IsErrOf result RecordFault.Write ⊎ IsErrOf result RecordFault.Memory }
-    ensures later { D.open_faults dock.old ≤ D.open_faults dock.new }
+    ensures asks { AsksFront (D.asked dock.old) (D.asked dock.new) (Creation out.now ∷ []) }
+    ensures asks_all { (IsErrOf result RecordFault.Memory → ⊥) → AsksAll (D.asked dock.old) (D.asked dock.new) (Creation out.now ∷ []) }
+    ensures quiet { (IsErrOf result RecordFault.Open → ⊥) → D.open_faults dock.new ≡ D.open_faults dock.old }
+    ensures writes { Blames (IsErrOf result RecordFault.Write) (D.write_faults dock.old) (D.write_faults dock.new) }
     ensures printed { D.printed dock.new ≡ D.printed dock.old }
     ensures print_faults { D.print_faults dock.new ≡ D.print_faults dock.old }
 {

@@ -86,9 +86,9 @@ impl<R: Files<File = File> + Net<Stream = TcpStream> + Drop, P: Print + Drop> Si
 
     ghost write_faults = { λ d. d.write_faults };
 
-    ghost Rest = { BesideSink };
+    ghost Rest = { BesideSink (Unit {0}) };
 
-    ghost rest = { λ d. record { contents = None; target = None; printed = None; open_faults = d.open_faults; print_faults = d.print_faults } };
+    ghost rest = { λ d. record { contents = None; marks = None; asked = None; target = None; printed = None; open_faults = d.open_faults; print_faults = d.print_faults } };
 
     /// Answers `Failed` where nothing was created, or the file takes none of the bytes.
     fn write(&mut self, bytes: &[u8]) -> Result<usize, Failed> {
@@ -108,9 +108,9 @@ impl<R: Files<File = File> + Net<Stream = TcpStream> + Drop, P: Print + Drop> Li
 
     ghost print_faults = { λ d. d.print_faults };
 
-    ghost Rest = { BesideLines };
+    ghost Rest = { BesideLines (Unit {0}) };
 
-    ghost rest = { λ d. record { contents = None; target = None; held = None; open_faults = d.open_faults; write_faults = d.write_faults } };
+    ghost rest = { λ d. record { contents = None; marks = None; asked = None; target = None; held = None; open_faults = d.open_faults; write_faults = d.write_faults } };
 
     /// Answers `Failed` where standard output doesn't take the lines that waited before this one, or,
     /// where this one can't wait, not all of it.
@@ -132,6 +132,12 @@ impl<R: Files<File = File> + Net<Stream = TcpStream> + Drop, P: Print + Drop> Do
     type Source = RealSource;
 
     ghost contents = { λ _. None };
+
+    ghost input_mark = { λ _. tt };
+
+    ghost marks = { λ _. None };
+
+    ghost asked = { λ _. None };
 
     ghost target = { λ _. None };
 
@@ -157,25 +163,35 @@ impl<R: Files<File = File> + Net<Stream = TcpStream> + Drop, P: Print + Drop> Do
         Ok(())
     }
 
+    ghost mark_keeps_input_mark = { λ s t h. refl };
+
     ghost write_keeps_contents = { λ d e h. refl };
+
+    ghost write_keeps_marks = { λ d e h. refl };
+
+    ghost write_keeps_asked = { λ d e h. refl };
 
     ghost write_keeps_target = { λ d e h. refl };
 
     ghost write_keeps_printed = { λ d e h. refl };
 
-    ghost write_keeps_open_faults = { λ d e h. ap (λ (r : BesideSink). r.open_faults) h };
+    ghost write_keeps_open_faults = { λ d e h. ap (λ (r : BesideSink (Unit {0})). r.open_faults) h };
 
-    ghost write_keeps_print_faults = { λ d e h. ap (λ (r : BesideSink). r.print_faults) h };
+    ghost write_keeps_print_faults = { λ d e h. ap (λ (r : BesideSink (Unit {0})). r.print_faults) h };
 
     ghost say_keeps_contents = { λ d e h. refl };
+
+    ghost say_keeps_marks = { λ d e h. refl };
+
+    ghost say_keeps_asked = { λ d e h. refl };
 
     ghost say_keeps_target = { λ d e h. refl };
 
     ghost say_keeps_held = { λ d e h. refl };
 
-    ghost say_keeps_open_faults = { λ d e h. ap (λ (r : BesideLines). r.open_faults) h };
+    ghost say_keeps_open_faults = { λ d e h. ap (λ (r : BesideLines (Unit {0})). r.open_faults) h };
 
-    ghost say_keeps_write_faults = { λ d e h. ap (λ (r : BesideLines). r.write_faults) h };
+    ghost say_keeps_write_faults = { λ d e h. ap (λ (r : BesideLines (Unit {0})). r.write_faults) h };
 }
 
 // Counts a failure.

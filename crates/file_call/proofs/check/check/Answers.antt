@@ -5,7 +5,7 @@ use Rattle.report_model.specs.Check.{check_lines}
 use Rattle.report_model.specs.Shown.{printed_lines}
 use Rattle.file_call.specs.Files.{IsFileOf}
 use Rattle.file_call.proofs.Ends.{nothing_noted, something_noted, check_read_end, check_limit_end}
-use Rattle.file_call.proofs.Files.{file_of, checked_from}
+use Rattle.file_call.proofs.Files.{read_failed, file_of, checked_from}
 use Rattle.file_call.proofs.Kept.{appends_from, appends_front_from, some_from, rose_from}
 use Rattle.file_call.proofs.check.check.Goals as goal
 
@@ -26,6 +26,11 @@ returns-in-ReadFault-clause-read g c = λ _.
     let P : FileEnd → Type 0 = λ e. Appends (g.D.Lines.printed c.args.dock.now) (g.D.Lines.printed c.check_file.new.lines) (printed_lines (check_lines (s.0, e))) in
     let is = check_read_end (s.0, s.1) s.2 in
     (s.0, subst F is (file_of c.in-Ok.ensures.begun _ s.0 s.1 s.3), subst P is (appends_from _ _ _ _ c.in-Ok.ensures.printed s.4))
+
+pub returns-in-ReadFault-clause-read_cause : goal.returns-in-ReadFault-clause-read_cause
+returns-in-ReadFault-clause-read_cause g c = λ _.
+    let s = c.in-ReadFault.ensures.checked refl in
+    read_failed g.D.Dock.input_mark (g.D.Dock.marks c.args.dock.now) g.met.D.Dock.mark_keeps_input_mark c.in-Ok.ensures.begun.entered c.in-Ok.ensures.marked c.check_file.new.reader.source s.3.marked (c.in-ReadFault.ensures.reads.rose refl) (s.3.taken, s.3.lost)
 
 pub returns-in-SizeLimit-clause-size_limit : goal.returns-in-SizeLimit-clause-size_limit
 returns-in-SizeLimit-clause-size_limit g c = λ _.
@@ -50,3 +55,15 @@ returns-clause-memory g c = λ _. elim (c.in-Memory.ensures.memory refl) [
   | inl f ↦ inr (inl (f.1, checked_from c.in-Ok.ensures.begun _ f.0 f.1 f.2 f.3, appends_from _ _ _ _ c.in-Ok.ensures.printed f.4))
   | inr s ↦ inr (inr (s.0, s.1, file_of c.in-Ok.ensures.begun _ s.0 s.1 s.2, some_from _ _ _ _ c.in-Ok.ensures.printed s.3))
 ]
+
+pub returns-in-Done-default-eq0-clause-asks : goal.returns-in-Done-default-eq0-clause-asks
+returns-in-Done-default-eq0-clause-asks g c = (1, search rules)
+
+pub returns-in-Done-clause-asks : goal.returns-in-Done-clause-asks
+returns-in-Done-clause-asks g c = (1, search rules)
+
+pub returns-in-ReadFault-clause-asks : goal.returns-in-ReadFault-clause-asks
+returns-in-ReadFault-clause-asks g c = (1, search rules)
+
+pub returns-in-SizeLimit-clause-asks : goal.returns-in-SizeLimit-clause-asks
+returns-in-SizeLimit-clause-asks g c = (1, search rules)

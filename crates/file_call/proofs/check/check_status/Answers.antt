@@ -15,9 +15,9 @@ returns-in-Err-NotXdf-clause-not_xdf g c = λ _.
 pub returns-in-Err-Memory-clause-memory : goal.returns-in-Err-Memory-clause-memory
 returns-in-Err-Memory-clause-memory g c = λ _.
     elim (c.in-Err-Memory.ensures.memory (ap Err c.in-Err-Memory.field-0-is)) [
-      | inl same ↦ inl (says_behind _ _ _ _ _ _ [] (codes "fault 9") (rw same (Appends-nil _)) c.in-Err-Memory.ensures.later c.say_fault-in-Err-Memory.ensures.line)
+      | inl same ↦ inl (says_behind _ _ _ _ _ _ [] (codes "fault 9") (rw same (Appends-nil _)) (c.in-Err-Memory.ensures.says.quiet (λ f. absurd (cc (f, c.in-Err-Memory.field-0-is)))) c.say_fault-in-Err-Memory.ensures.line)
       | inr more ↦ elim more [
-        | inl k ↦ inr (inl (k.0, k.1, says_behind _ _ _ _ _ _ k.0 (codes "fault 9") k.2 c.in-Err-Memory.ensures.later c.say_fault-in-Err-Memory.ensures.line))
-        | inr k ↦ inr (inr (k.0, k.1, k.2, says_some_behind _ _ _ _ _ _ (check_lines (k.0, k.1)) (codes "fault 9") k.3 c.in-Err-Memory.ensures.later c.say_fault-in-Err-Memory.ensures.line))
+        | inl k ↦ inr (inl (k.0, k.1, says_behind _ _ _ _ _ _ k.0 (codes "fault 9") k.2 (c.in-Err-Memory.ensures.says.quiet (λ f. absurd (cc (f, c.in-Err-Memory.field-0-is)))) c.say_fault-in-Err-Memory.ensures.line))
+        | inr k ↦ inr (inr (k.0, k.1, k.2, says_some_behind _ _ _ _ _ _ (check_lines (k.0, k.1)) (codes "fault 9") k.3 (c.in-Err-Memory.ensures.says.quiet (λ f. absurd (cc (f, c.in-Err-Memory.field-0-is)))) c.say_fault-in-Err-Memory.ensures.line))
       ]
     ]

@@ -13,7 +13,7 @@ use Rattle.file_call.specs.Repaired.{CompletesRepair, repaired_line, repaired_st
 use Rattle.file_call.specs.Searched.{IsKept}
 use Rattle.file_call.proofs.Damage.{goes_over}
 use Rattle.file_call.proofs.Completes.{completes}
-use Rattle.file_call.proofs.Repairs.{failed_input, long_input}
+use Rattle.file_call.proofs.Repairs.{long_input}
 use Rattle.file_call.proofs.Words.{asked_repair, drill_within, same_number, usage_known, not_record}
 use Rattle.file_call.proofs.file.file_main.Goals as goal
 
@@ -84,13 +84,15 @@ returns-in-Repair-clause-repair_completes g c = λ form from out asked.
     let left = g.D.Source.Source.left in
     let faults = g.D.Source.Source.faults in
     let mark = g.D.Source.Source.mark in
+    let input = g.D.Dock.input_mark in
     let contents = g.D.Dock.contents old in
-    let C : Bool → List ℕ → List ℕ → Type 0 = λ s f o. CompletesRepair left faults mark contents f (opens old) (opens new) (writes old) (writes new) (says old) (says new) c.repair_status.result in
-    asked_repair c.args.words.now C c.in-Repair.search form c.in-Repair.from.now from c.in-Repair.to.now out (subst A c.in-Repair.is c.in-Ok.ensures) asked (completes left faults mark contents c.in-Repair.from.now (opens old) (opens new) (writes old) (writes new) (says old) (says new) c.repair_status.result e.statuses
+    let marks = g.D.Dock.marks old in
+    let C : Bool → List ℕ → List ℕ → Type 0 = λ s f o. CompletesRepair left faults mark input contents marks f (opens old) (opens new) (writes old) (writes new) (says old) (says new) c.repair_status.result in
+    asked_repair c.args.words.now C c.in-Repair.search form c.in-Repair.from.now from c.in-Repair.to.now out (subst A c.in-Repair.is c.in-Ok.ensures) asked (completes left faults mark input contents marks c.in-Repair.from.now (opens old) (opens new) (writes old) (writes new) (says old) (says new) c.repair_status.result e.statuses
     (λ is. (e.not_xdf is).1)
     (λ is. elim (e.open_fault is).0 [
-      | inl k ↦ k.0
-      | inr k ↦ inr (failed_input c.in-Repair.search left faults mark contents c.in-Repair.from.now c.in-Repair.to.now _ _ _ _ k)
+      | inl k ↦ elim k.0 [ inl at ↦ inl at.rose | inr read ↦ inr read ]
+      | inr k ↦ inr k.0
     ])
     (λ is. let k = (e.write_fault is).0 in subst (λ n. Rose n (writes new)) k.2 k.3)
     (λ is. long_input c.in-Repair.search left contents c.in-Repair.from.now c.in-Repair.to.now _ _ _ _ (e.size_limit is).0)

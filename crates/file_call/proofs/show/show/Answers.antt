@@ -4,7 +4,7 @@ use Rattle.file_model.specs.declared.end.FileEnd.{FileEnd}
 use Rattle.report_model.specs.Shown.{show_lines, printed_lines}
 use Rattle.file_call.specs.Files.{IsFileOf}
 use Rattle.file_call.proofs.Ends.{clean_end, torn_end, bad_end, read_end, limit_end}
-use Rattle.file_call.proofs.Files.{file_of, shown_from}
+use Rattle.file_call.proofs.Files.{read_failed, file_of, shown_from}
 use Rattle.file_call.proofs.Kept.{appends_from, appends_front_from, rose_from}
 use Rattle.file_call.proofs.show.show.Goals as goal
 
@@ -30,6 +30,11 @@ returns-in-ReadFault-clause-read g c = λ _.
     let P : FileEnd → Type 0 = λ e. Appends (g.D.Lines.printed c.args.dock.now) (g.D.Lines.printed c.show_file.new.lines) (printed_lines (show_lines (s.0, e))) in
     let is = read_end s.1 s.2 in
     (s.0, subst F is (file_of c.in-Ok.ensures.begun _ s.0 s.1 s.3), subst P is (appends_from _ _ _ _ c.in-Ok.ensures.printed s.4))
+
+pub returns-in-ReadFault-clause-read_cause : goal.returns-in-ReadFault-clause-read_cause
+returns-in-ReadFault-clause-read_cause g c = λ _.
+    let s = c.in-ReadFault.ensures.shown refl in
+    read_failed g.D.Dock.input_mark (g.D.Dock.marks c.args.dock.now) g.met.D.Dock.mark_keeps_input_mark c.in-Ok.ensures.begun.entered c.in-Ok.ensures.marked c.show_file.new.reader.source s.3.marked (c.in-ReadFault.ensures.reads.rose refl) (s.3.taken, s.3.lost)
 
 pub returns-in-SizeLimit-clause-size_limit : goal.returns-in-SizeLimit-clause-size_limit
 returns-in-SizeLimit-clause-size_limit g c = λ _.

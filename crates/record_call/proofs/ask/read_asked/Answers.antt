@@ -2,12 +2,17 @@ use Rattle.std.proofs.Common.{List, [], ◌∷◌, length, map, inl, inr, refl, 
 use Rattle.rec_base.specs.declared.name.Name.TheVariants as name
 use Rattle.recording_model.specs.declared.stream.StreamDoc.{StreamDoc}
 use Rattle.record_run.specs.Cost.{cost_of}
-use Rattle.record_call.specs.Feeds.{document_name, IsStreamOf}
+use Rattle.record_call.specs.Feeds.{document_name, names_of, IsStreamOf}
+use Rattle.record_call.specs.Orders.{plan_order}
+use Rattle.dock_calls.specs.Asking.{openings}
 use Rattle.record_call.specs.Recorded.{HasStreams}
-use Rattle.run_model.proofs.Errors.{handed}
+use Rattle.dock_calls.proofs.Asking.{AsksAll-more}
+use Rattle.dock_calls.proofs.Places.{IsAfter-none}
+use Rattle.run_model.proofs.Errors.{handed, handed_back}
+use Rattle.record_call.proofs.Asking.{fails_from}
+use Rattle.record_call.proofs.Orders.{documents_asked, document_failed, plan_first}
 use Rattle.record_call.proofs.Feeds.{each_length}
 use Rattle.record_call.proofs.Plans.{planned, after_plan}
-use Rattle.record_call.proofs.Said.{rose_later}
 use Rattle.record_call.proofs.ask.read_asked.Goals as goal
 
 pub returns-in_err-streams-clause-none : goal.returns-in_err-streams-clause-none
@@ -30,13 +35,15 @@ returns-in_err-streams-clause-failed g c = λ e.
     let between = g.D.Dock.contents c.open_plan.new.dock in
     let plan = c.in_ok-plan.plan in
     elim (c.in_err-streams.ensures.failed (handed c.from_residual-in_err-streams.result c.in_err-streams.field-0.0 _ c.from_residual-in_err-streams.ensures.1 e)) [
-      | inl rose ↦ inl (rose_later _ _ _ c.in_ok-plan.ensures.later rose)
+      | inl at ↦ inl (document_failed before c.args.words.now c.args.path.now c.args.out.now _ _ _ plan _ _ (planned before between c.args.words.now c.args.path.now c.args.out.now plan c.requires.command c.in_ok-plan.ensures.plan) c.in_ok-plan.ensures.asks_all
+          (fails_from at (c.in_ok-plan.ensures.quiet (λ f. absurd (cc f)))))
       | inr k ↦ inr (inr (record {
         path = c.args.path.now;
         out = c.args.out.now;
         plan = plan;
         planned = planned before between c.args.words.now c.args.path.now c.args.out.now plan c.requires.command c.in_ok-plan.ensures.plan;
-        failed = k.is before (name.File c.args.path.now ∷ []) (after_plan before between c.args.words.now c.args.path.now c.args.out.now plan c.requires.command c.in_ok-plan.ensures.plan);
+        failed = k.is before (g.D.Dock.marks c.args.dock.now) (name.File c.args.path.now ∷ []) (after_plan before between c.args.words.now c.args.path.now c.args.out.now plan c.requires.command c.in_ok-plan.ensures.plan)
+            (c.in_ok-plan.ensures.marks.left (g.D.Dock.marks c.args.dock.now) [] (IsAfter-none _));
       }))
     ]
 
@@ -87,3 +94,42 @@ returns-clause-after g c =
     let before = g.D.Dock.contents c.args.dock.now in
     let between = g.D.Dock.contents c.open_plan.new.dock in
     c.in_ok-streams.ensures.read.left before (name.File c.args.path.now ∷ []) (after_plan before between c.args.words.now c.args.path.now c.args.out.now c.in_ok-plan.plan c.requires.command c.in_ok-plan.ensures.plan)
+
+pub returns-in_err-plan-clause-asks : goal.returns-in_err-plan-clause-asks
+returns-in_err-plan-clause-asks g c =
+    (plan_order c.args.path.now, plan_first _ c.args.words.now c.args.path.now c.args.out.now c.requires.command, c.in_err-plan.ensures.asks)
+
+pub returns-in_err-plan-clause-failed : goal.returns-in_err-plan-clause-failed
+returns-in_err-plan-clause-failed g c = λ e.
+    elim (c.in_err-plan.ensures.failed (handed c.from_residual.result c.in_err-plan.field-0.0 _ c.from_residual.ensures.1 e)) [
+      | inl at ↦ inl (plan_order c.args.path.now, plan_first _ c.args.words.now c.args.path.now c.args.out.now c.requires.command, at)
+      | inr k ↦ inr (inl (record { path = c.args.path.now; out = c.args.out.now; command = c.requires.command; failed = k }))
+    ]
+
+pub returns-in_err-plan-clause-quiet : goal.returns-in_err-plan-clause-quiet
+returns-in_err-plan-clause-quiet g c = λ other.
+    c.in_err-plan.ensures.quiet (λ f. other (handed_back c.from_residual.result c.in_err-plan.field-0.0 _ c.from_residual.ensures.1 f))
+
+pub returns-in_err-streams-clause-asks : goal.returns-in_err-streams-clause-asks
+returns-in_err-streams-clause-asks g c =
+    documents_asked _ c.args.words.now c.args.path.now c.args.out.now _ _ _ c.in_ok-plan.plan
+    (planned _ (g.D.Dock.contents c.open_plan.new.dock) c.args.words.now c.args.path.now c.args.out.now c.in_ok-plan.plan c.requires.command c.in_ok-plan.ensures.plan) c.in_ok-plan.ensures.asks_all c.in_err-streams.ensures.asks
+
+pub returns-in_err-streams-clause-quiet : goal.returns-in_err-streams-clause-quiet
+returns-in_err-streams-clause-quiet g c = λ other.
+    c.in_err-streams.ensures.quiet (λ f. other (handed_back c.from_residual-in_err-streams.result c.in_err-streams.field-0.0 _ c.from_residual-in_err-streams.ensures.1 f))
+    ∙ c.in_ok-plan.ensures.quiet (λ f. absurd (cc f))
+
+pub returns-in_err-check_cost-clause-asks : goal.returns-in_err-check_cost-clause-asks
+returns-in_err-check_cost-clause-asks g c =
+    documents_asked _ c.args.words.now c.args.path.now c.args.out.now _ _ _ c.in_ok-plan.plan
+    (planned _ (g.D.Dock.contents c.open_plan.new.dock) c.args.words.now c.args.path.now c.args.out.now c.in_ok-plan.plan c.requires.command c.in_ok-plan.ensures.plan) c.in_ok-plan.ensures.asks_all c.in_ok-streams.ensures.asks
+
+pub returns-clause-asks : goal.returns-clause-asks
+returns-clause-asks g c =
+    documents_asked _ c.args.words.now c.args.path.now c.args.out.now _ _ _ c.in_ok-plan.plan
+    (planned _ (g.D.Dock.contents c.open_plan.new.dock) c.args.words.now c.args.path.now c.args.out.now c.in_ok-plan.plan c.requires.command c.in_ok-plan.ensures.plan) c.in_ok-plan.ensures.asks_all c.in_ok-streams.ensures.asks
+
+pub returns-clause-asks_all : goal.returns-clause-asks_all
+returns-clause-asks_all g c =
+    AsksAll-more _ _ _ (plan_order c.args.path.now) (openings (names_of document_name c.in_ok-plan.plan.feeds)) c.in_ok-plan.ensures.asks_all c.in_ok-streams.ensures.asks_all

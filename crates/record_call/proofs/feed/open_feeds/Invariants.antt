@@ -1,12 +1,16 @@
-use Rattle.std.proofs.Common.{◌≡◌, ◌≤◌, take}
+use Rattle.std.proofs.Common.{◌≡◌, take}
 use Rattle.std.specs.List.{zip}
-use Rattle.record_call.specs.Feeds.{AreSourcesOpened}
+use Rattle.rec_base.specs.Asked.{AsksAll}
+use Rattle.dock_calls.specs.Asking.{openings}
+use Rattle.record_call.specs.Feeds.{feed_name, names_of, AreSourcesOpened}
 use Rattle.record_call.proofs.feed.open_feeds.Given as goal
 
 abbrev pub invariant-loop-i : goal.invariant-loop-i
 invariant-loop-i g l = record {
   opened : AreSourcesOpened g.D.Source.Source.left (g.D.Dock.contents l.initial.dock) (g.D.Dock.contents l.dock) (take l.i (zip l.feeds l.streams)) l.sources.items;
-  later : g.D.Dock.open_faults l.initial.dock ≤ g.D.Dock.open_faults l.dock;
+  asks : AsksAll (g.D.Dock.asked l.initial.dock) (g.D.Dock.asked l.dock) (openings (names_of feed_name (take l.i (zip l.feeds l.streams))));
+  quiet : g.D.Dock.open_faults l.dock ≡ g.D.Dock.open_faults l.initial.dock;
+  write_faults : g.D.Sink.write_faults l.dock ≡ g.D.Sink.write_faults l.initial.dock;
   target : g.D.Dock.target l.dock ≡ g.D.Dock.target l.initial.dock;
   held : g.D.Sink.held l.dock ≡ g.D.Sink.held l.initial.dock;
   printed : g.D.Lines.printed l.dock ≡ g.D.Lines.printed l.initial.dock;
