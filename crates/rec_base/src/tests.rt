@@ -63,13 +63,30 @@ enum Call {
     Say(&'static str),
 }
 
-// Does a call on any dock, and says whether it went well.
+// A call on any dock, and whether it went well. Each has a function of its own, since the prover takes
+// long over a choice between calls that change a dock.
+fn opens<D: Dock>(alloc: Global, dock: &mut D, path: &str) -> Result<bool, Fail> {
+    Ok(dock.open(&file(alloc, path)?).is_ok())
+}
+
+fn creates<D: Dock>(alloc: Global, dock: &mut D, path: &str) -> Result<bool, Fail> {
+    Ok(dock.create(&word(alloc, path)?).is_ok())
+}
+
+fn writes<D: Dock>(dock: &mut D, text: &str) -> bool {
+    dock.write(text.as_bytes()).is_ok()
+}
+
+fn says<D: Dock>(dock: &mut D, line: &str) -> bool {
+    dock.say(line).is_ok()
+}
+
 fn went_well<D: Dock>(alloc: Global, dock: &mut D, call: Call) -> Result<bool, Fail> {
     match call {
-        Call::Open(path) => Ok(dock.open(&file(alloc, path)?).is_ok()),
-        Call::Create(path) => Ok(dock.create(&word(alloc, path)?).is_ok()),
-        Call::Write(text) => Ok(dock.write(text.as_bytes()).is_ok()),
-        Call::Say(line) => Ok(dock.say(line).is_ok()),
+        Call::Open(path) => opens(alloc, dock, path),
+        Call::Create(path) => creates(alloc, dock, path),
+        Call::Write(text) => Ok(writes(dock, text)),
+        Call::Say(line) => Ok(says(dock, line)),
     }
 }
 
@@ -190,13 +207,25 @@ fn listed_calls_fail(rt: HostRuntime) -> Result<(), Fail> {
     for (call, well) in calls {
         assert_eq!(rt; went_well(alloc, &mut dock, call)?, well);
     }
-    let asked = dock.asked().unwrap_or(&[]);
-    assert_eq!(rt; asked.len(), 4);
-    assert!(rt; matches!(&asked[0], Asked::Opening(Name::File(path)) if path.text() == "a"));
-    assert!(rt; matches!(&asked[1], Asked::Creation(path) if path.text() == "out"));
     assert_eq!(rt; dock.target(), b"out".as_slice());
     assert_eq!(rt; dock.held(), b"abef".as_slice());
     assert_eq!(rt; dock.printed(), b"kept\n".as_slice());
+    Ok(())
+}
+
+#[test]
+fn what_was_asked_for_is_told(rt: HostRuntime) -> Result<(), Fail> {
+    let alloc = rt.alloc();
+    let mut dock = dock_of(alloc, 0)?;
+    assert!(rt; dock.open(&file(alloc, "b")?).is_err());
+    assert_eq!(rt; dock.create(&word(alloc, "out")?), Ok(()));
+    let told = match dock.asked() {
+        Some([Asked::Opening(Name::File(path)), Asked::Creation(out)]) => {
+            path.text() == "b" && out.text() == "out"
+        }
+        _ => false,
+    };
+    assert!(rt; told);
     Ok(())
 }
 

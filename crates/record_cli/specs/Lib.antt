@@ -1,3 +1,6 @@
-pub mod Outputs
+pub mod Answers
+pub mod FileAnswer
+pub mod RecordAnswer
+pub mod Shown
 pub mod Statuses
 pub mod Words

@@ -1,8 +1,8 @@
-use crate::answer;
-use crate::real_dock::RealDock;
-use crate::real_source::RealSource;
+use crate::run::run;
+use real_dock::{RealDock, RealSource};
 use rec_base::{Blob, Dock, Failed, Name, Source, Word};
 use std::alloc::Global;
+use std::fs::File;
 use std::io::{self, Read, Write};
 use std::net::{IpAddr, Ipv4Addr, Ipv6Addr, SocketAddr, TcpListener, TcpStream};
 use std::test::Fail;
@@ -71,9 +71,9 @@ fn serve(
 }
 
 // Opens the peer under this name of its host.
-fn open(rt: &HostRuntime, host: &str, port: u16) -> Result<RealSource, Fail> {
+fn open(rt: &HostRuntime, host: &str, port: u16) -> Result<RealSource<File, TcpStream>, Fail> {
     let alloc: Global = rt.alloc();
-    let mut dock = RealDock::new(alloc, rt.clone()?, rt.stdout());
+    let mut dock = RealDock::new(alloc, *rt, rt.stdout(), None)?;
     Ok(dock.open(&peer_name(alloc, host, port)?)?)
 }
 
@@ -90,7 +90,10 @@ fn listen(rt: &HostRuntime, address: IpAddr) -> io::Result<TcpListener> {
 }
 
 // The bytes up to the end or to a failed read, and whether one failed.
-fn read_to_end(alloc: Global, source: &mut RealSource) -> Result<(Vec<u8>, bool), Fail> {
+fn read_to_end(
+    alloc: Global,
+    source: &mut RealSource<File, TcpStream>,
+) -> Result<(Vec<u8>, bool), Fail> {
     let mut got = Vec::new(alloc);
     let mut buf = [0u8; 200];
     for _ in 0..u16::MAX {
@@ -178,7 +181,7 @@ fn a_peer_that_is_not_there_is_not_opened(rt: HostRuntime) -> Result<(), Fail> {
     let listener = listen(&rt, IpAddr::V4(Ipv4Addr::LOCALHOST))?;
     let port = listener.local_addr()?.port();
     drop(listener);
-    let mut dock = RealDock::new(alloc, rt.clone()?, rt.stdout());
+    let mut dock = RealDock::new(alloc, rt, rt.stdout(), None)?;
     // Nobody listens there, and no machine has the second name.
     for host in ["127.0.0.1", "no\0host"] {
         assert!(rt;
@@ -205,8 +208,8 @@ fn an_outlet_is_recorded(rt: HostRuntime) -> Result<(), Fail> {
     for text in ["record", "outlet_plan", "outlet_out"] {
         words.push(Word::from_bytes(alloc, text.as_bytes())?)?;
     }
-    let mut dock = RealDock::new(alloc, rt.clone()?, rt.stdout());
-    assert_eq!(rt; answer(&rt, alloc, &words, &mut dock), 0);
+    let mut dock = RealDock::new(alloc, rt, rt.stdout(), None)?;
+    assert_eq!(rt; run(&rt, alloc, &words, &mut dock), 0);
     let request = peer.join(&rt)?;
     assert!(rt; request.starts_with(b"LSL:streamfeed/110 u1\r\n"));
     // The three samples of the feed, in one chunk, in two or in three: a file without them has 527 bytes.

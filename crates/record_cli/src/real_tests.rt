@@ -1,14 +1,8 @@
-use crate::real_dock::RealDock;
-use crate::retry::{read_again, write_again};
-use crate::waiting::{put_out, say_in};
-use crate::{answer, settle};
-use rec_base::{Dock, Failed, Name, Sink, Source, Word};
+use crate::run::run;
+use real_dock::RealDock;
+use rec_base::Word;
 use std::alloc::Global;
-use std::cell::Cell;
-use std::fmt::Display;
 use std::fs::{self, File, OpenOptions};
-use std::io::{self, Read, Write};
-use std::os::fd::AsRawFd;
 use std::os::unix::fs::symlink;
 use std::rt::Clock;
 use std::sync::Wait;
@@ -22,51 +16,17 @@ const DOC: &str =
 const FEED: &[u8] =
     b"LSL/110 200 OK\r\nUID: u1\r\nByte-Order: 1234\r\nSuppress-Subnormals: 0\r\nData-Protocol-Version: 110\r\n\r\n\x02\0\0\0\0\0\0\0\0\0\0\x02\0\0\0\0\0\0\0\0\0\0\x01\x01\0\x01\x02\0\x01\x03\0";
 
-// Standard output for a test: a file, and how many calls it took, and how many of 65,536 bytes.
-#[derive(Drop)]
-struct ToFile {
-    file: File,
-    calls: Cell<u64>,
-    full: Cell<u64>,
-}
-
-impl Print for ToFile {
-    fn print<D: Display + Drop>(&self, _value: D) -> io::Result<()> {
-        Err(io::Error::from(io::ErrorKind::Unsupported))
-    }
-
-    fn println<D: Display + Drop>(&self, _value: D) -> io::Result<()> {
-        Err(io::Error::from(io::ErrorKind::Unsupported))
-    }
-
-    fn write_all(&self, bytes: &[u8]) -> io::Result<()> {
-        self.calls.set(self.calls.get().saturating_add(1));
-        if bytes.len() == 65_536 {
-            self.full.set(self.full.get().saturating_add(1));
-        }
-        let mut file = &self.file;
-        file.write_all(bytes)
-    }
-}
-
-fn lines_to(rt: &HostRuntime, path: &str) -> Result<ToFile, Fail> {
-    Ok(ToFile {
-        file: OpenOptions::new().append(true).create(true).open(rt, path)?,
-        calls: Cell::new(0),
-        full: Cell::new(0),
-    })
+// Standard output for a test.
+fn lines_to(rt: &HostRuntime, path: &str) -> Result<File, Fail> {
+    Ok(OpenOptions::new().append(true).create(true).open(rt, path)?)
 }
 
 fn word(alloc: Global, text: &str) -> Result<Word, Fail> {
     Ok(Word::from_bytes(alloc, text.as_bytes())?)
 }
 
-fn file(alloc: Global, path: &str) -> Result<Name, Fail> {
-    Ok(Name::File(word(alloc, path)?))
-}
-
 // The status of a command, with the lines put out there.
-fn run(
+fn answered(
     threads: &(impl Threads + Wait + Clock + Sync),
     rt: &HostRuntime,
     command: &str,
@@ -79,8 +39,8 @@ fn run(
     words.push(word(alloc, command)?)?;
     words.push(word(alloc, first)?)?;
     words.push(word(alloc, last)?)?;
-    let mut dock = RealDock::new(alloc, rt.clone()?, lines_to(rt, lines)?);
-    Ok(answer(threads, alloc, &words, &mut dock))
+    let mut dock = RealDock::new(alloc, *rt, lines_to(rt, lines)?, None)?;
+    Ok(run(threads, alloc, &words, &mut dock))
 }
 
 // Removes what is there of these.
@@ -100,7 +60,7 @@ fn refuses(
     kept: &str,
 ) -> Result<(), Fail> {
     let before = fs::read(rt, kept)?;
-    let status = run(threads, rt, command, first, output, "/dev/null")?;
+    let status = answered(threads, rt, command, first, output, "/dev/null")?;
     let after = fs::read(rt, kept)?;
     if status == 4 && after.as_slice() == before.as_slice() {
         return Ok(());
@@ -159,11 +119,11 @@ fn records(
     lines: &str,
     status: u8,
 ) -> Result<(), Fail> {
-    let answered = run(threads, rt, "record", "own_plan", output, lines)?;
-    if answered == status {
+    let got = answered(threads, rt, "record", "own_plan", output, lines)?;
+    if got == status {
         return Ok(());
     }
-    Err(Fail::new(format_args!("{output}: status {answered}")))
+    Err(Fail::new(format_args!("{output}: status {got}")))
 }
 
 #[test]
@@ -213,104 +173,5 @@ fn outputs_are_made_or_taken_as_they_are(rt: HostRuntime) -> Result<(), Fail> {
     let said = b"feed 1 received 3 kept 3 lost 0 end whole\nrecorded bytes 546 chunks 6\n";
     assert_eq!(rt; fs::read(&rt, "lines")?.as_slice(), said.as_slice());
     clear(&rt, &names);
-    Ok(())
-}
-
-#[test]
-fn a_pipe_takes_the_recording(rt: HostRuntime) -> Result<(), Fail> {
-    let alloc: Global = rt.alloc();
-    let (mut reader, writer) = io::pipe(&rt)?;
-    let number = writer.as_raw_fd();
-    let path = format!(in alloc; "/proc/self/fd/{number}")?;
-    let mut dock = RealDock::new(alloc, rt.clone()?, lines_to(&rt, "/dev/null")?);
-    dock.create(&word(alloc, &path)?)?;
-    assert_eq!(rt; dock.write(b"abcd"), Ok(4));
-    assert_eq!(rt; settle(0, &mut dock), 0);
-    let mut buf = [b'.'; 6];
-    assert_eq!(rt; reader.read(&mut buf)?, 4);
-    assert_eq!(rt; buf.as_slice(), b"abcd..".as_slice());
-    Ok(())
-}
-
-#[test]
-fn lines_go_out_65536_bytes_at_a_time(rt: HostRuntime) -> Result<(), Fail> {
-    let alloc: Global = rt.alloc();
-    clear(&rt, &["many_lines"]);
-    let out = lines_to(&rt, "many_lines")?;
-    let mut waiting = Vec::new(alloc);
-    // With the ends of the lines 3 * 65,536 bytes and 4 more. One line is longer than goes out at once.
-    for n in [65_534, 1, 0, 131_073] {
-        let line = "a".repeat(alloc, n)?;
-        assert!(rt; say_in(&out, &mut waiting, &line));
-    }
-    assert_eq!(rt; (out.calls.get(), out.full.get()), (3, 3));
-    assert!(rt; put_out(&out, &mut waiting));
-    assert_eq!(rt; (out.calls.get(), out.full.get()), (4, 3));
-    let said = fs::read(&rt, "many_lines")?;
-    clear(&rt, &["many_lines"]);
-    assert_eq!(rt; said.len(), 196_612);
-    assert_eq!(rt; said.get(65_533..65_541), Some(b"a\na\n\naaa".as_slice()));
-    Ok(())
-}
-
-// A file whose first calls a signal interrupts, and whose next one takes or gives a byte.
-#[derive(Drop)]
-struct Interrupted {
-    left: u64,
-}
-
-impl Interrupted {
-    fn call(&mut self) -> io::Result<usize> {
-        if self.left == 0 {
-            return Ok(1);
-        }
-        self.left -= 1;
-        Err(io::Error::from(io::ErrorKind::Interrupted))
-    }
-}
-
-impl Read for Interrupted {
-    fn read(&mut self, buf: &mut [u8]) -> io::Result<usize> {
-        let n = self.call()?;
-        Ok(n.min(buf.len()))
-    }
-}
-
-impl Write for Interrupted {
-    fn write(&mut self, buf: &[u8]) -> io::Result<usize> {
-        let n = self.call()?;
-        Ok(n.min(buf.len()))
-    }
-
-    fn flush(&mut self) -> io::Result<()> {
-        Ok(())
-    }
-}
-
-#[test]
-fn what_a_signal_interrupts_is_tried_again(rt: HostRuntime) -> Result<(), Fail> {
-    assert_eq!(rt; read_again(&mut Interrupted { left: 3 }, &mut [0; 4])?, 1);
-    assert_eq!(rt; write_again(&mut Interrupted { left: 3 }, b"abcd")?, 1);
-    Ok(())
-}
-
-#[test]
-fn files_are_read(rt: HostRuntime) -> Result<(), Fail> {
-    let alloc: Global = rt.alloc();
-    let mut dock = RealDock::new(alloc, rt.clone()?, rt.stdout());
-    // A folder opens, and refuses to be read.
-    for (path, want) in [
-        ("/dev/zero", Ok(4)),
-        ("/dev/null", Ok(0)),
-        ("/", Err(Failed)),
-    ] {
-        let mut source = dock.open(&file(alloc, path)?)?;
-        let mut buf = [7u8; 4];
-        assert_eq!(rt; source.read(&mut buf), want);
-        let filled = want == Ok(4);
-        assert_eq!(rt; buf, if filled { [0; 4] } else { [7; 4] });
-    }
-    assert!(rt; dock.open(&file(alloc, "/no/such/file")?).is_err());
-    assert_eq!(rt; dock.write(b"ab"), Err(Failed));
     Ok(())
 }

@@ -36,8 +36,8 @@ module _ {S M : Type 0} (left_of : S → Option (List ℕ)) (faults_of : S → �
   first_put : (d : InletDone) (stream : StreamDoc) (feed : FeedSource S) (last : S) (now : Outlook Sample FeedEnd) (puts : List Sample)
       → HasEnded left_of faults_of mark_of (feed_of stream feed) feed.source last now puts d → AreFirstOf left_of (feed_of stream feed) feed.source puts
   first_put (Ended e) stream feed last now puts h = first_ended stream feed left_of (feed_kind e) last h.taken puts e h.lost h.ends
-  first_put Memory stream feed last now puts h = first_begun stream feed left_of now last puts h
-  first_put Halted stream feed last now puts h = first_begun stream feed left_of now last puts h
+  first_put Memory stream feed last now puts h = first_begun stream feed left_of now last puts h.0
+  first_put Halted stream feed last now puts h = first_begun stream feed left_of now last puts h.0
 
   has_first : (ring : ℕ) (stream : StreamDoc) (feed : FeedSource S) (work : Work S) (head : CountedHead) (worked : Worked S) (entries : List Entry) → IsNewLane ring stream feed work head
       → HasWorked left_of faults_of mark_of work worked → AreOf worked.tail.puts entries → HasFirst left_of stream feed entries

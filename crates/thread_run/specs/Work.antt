@@ -13,11 +13,11 @@ use Rattle.thread_run.specs.declared.work.InletDone.TheVariants.{Ended, Memory, 
 use Rattle.thread_run.specs.declared.work.Work.{Work}
 use Rattle.thread_run.specs.declared.work.Worked.{Worked}
 
--- what was put are just the samples of the feed up to its end, or those that were given before there was no memory, or before the run was stopped
+-- what was put are just the samples of the feed up to its end, or those that were given before there was no memory, or before the run was stopped, and no read failed till then
 abbrev pub HasEnded : {S M : Type 0} → (S → Option (List ℕ)) → (S → ℕ) → (S → M) → Reader Sample FeedEnd → S → S → Outlook Sample FeedEnd → List Sample → InletDone → Type 0
 HasEnded left_of faults_of mark_of reader first last now puts (Ended e) = IsRead left_of faults_of mark_of feed_kind reader first last puts e
-HasEnded left_of faults_of mark_of reader first last now puts Memory = Begun (fresh reader) now (left_of first) (left_of last) puts
-HasEnded left_of faults_of mark_of reader first last now puts Halted = Begun (fresh reader) now (left_of first) (left_of last) puts
+HasEnded left_of faults_of mark_of reader first last now puts Memory = Begun (fresh reader) now (left_of first) (left_of last) puts × (faults_of last ≡ faults_of first)
+HasEnded left_of faults_of mark_of reader first last now puts Halted = Begun (fresh reader) now (left_of first) (left_of last) puts × (faults_of last ≡ faults_of first)
 
 -- nothing was read and nothing was put, and the halt word wasn't seen raised
 pub record IsFresh {S : Type 0} (w : Work S) : Type 0 where

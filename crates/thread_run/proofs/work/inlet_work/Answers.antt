@@ -57,8 +57,10 @@ returns-in-Memory-clause-put g c =
     let L = g.S.Source.left in
     let r = (outlook c.args.reader.now.inlet).coming in
     let n = c.in-Memory.ensures in
-    let new = c.take_from.new.reader in
-    begun_memory r (outlook c.loop.reader.inlet) (outlook new.inlet) (L c.args.reader.now.source) (L c.loop.reader.source) (L new.source) c.loop.tail c.take_from.new.self n.put.0 c.loop.invariant.begun n.put.2 n.put.1
+    let new = c.take_from.new.reader in (
+      begun_memory r (outlook c.loop.reader.inlet) (outlook new.inlet) (L c.args.reader.now.source) (L c.loop.reader.source) (L new.source) c.loop.tail c.take_from.new.self n.put.0 c.loop.invariant.begun n.put.2 n.put.1,
+      n.cause.quiet (λ h. absurd (cc h.1)) ∙ c.loop.invariant.quiet,
+    )
 
 pub returns-in-End-clause-counts : goal.returns-in-End-clause-counts
 returns-in-End-clause-counts g c =
