@@ -49,7 +49,8 @@ fn run_here(
         return 9;
     };
     let status = run(threads, alloc, words, &mut dock);
-    say_refusal(rt, words, status, &mut dock);
+    dock.note_reads();
+    say_refusal(rt, words, status, &dock);
     status
 }
 

@@ -29,26 +29,21 @@ pub(crate) fn say_refusal(
     rt: &HostRuntime,
     words: &[Word],
     status: u8,
-    dock: &mut RealDock<HostRuntime, Stdout>,
+    dock: &RealDock<HostRuntime, Stdout>,
 ) {
-    dock.note_reads();
     let plan_line = plan_line(rt, words, dock.last_fault());
-    let Ok(words) = texts_of(rt.alloc(), words) else {
-        return;
-    };
-    say(
-        rt,
-        &Refusal {
-            words: &words,
-            status,
-            line: dock.last_fault(),
-            plan_line: match &plan_line {
-                Some(line) => Some(line.as_str()),
-                None => None,
+    if let Ok(texts) = texts_of(rt.alloc(), words) {
+        say(
+            rt,
+            &Refusal {
+                words: &texts,
+                status,
+                line: dock.last_fault(),
+                plan_line: plan_line.as_deref(),
+                trouble: dock.trouble(),
             },
-            trouble: dock.trouble(),
-        },
-    );
+        );
+    }
 }
 
 /// Says the sentence where there are no words, or no memory to begin with.
