@@ -1,1 +1,3 @@
+pub mod Cut
+pub mod Repairs
 pub mod Settling

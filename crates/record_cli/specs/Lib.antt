@@ -1,6 +1,7 @@
 pub mod Answers
 pub mod FileAnswer
 pub mod RecordAnswer
+pub mod Repairs
 pub mod Shown
 pub mod Statuses
 pub mod Words

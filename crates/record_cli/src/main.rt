@@ -7,6 +7,7 @@ ghost use Rattle.std.specs.declared.io.ErrorKind.TheVariants.{InvalidData};
 
 #[cfg(test)]
 mod large_tests;
+mod laws;
 #[cfg(test)]
 mod peer_tests;
 mod people;
