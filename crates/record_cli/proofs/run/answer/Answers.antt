@@ -1,10 +1,10 @@
+use Rattle.record_cli.specs.Shown.{Shown}
 use Rattle.record_cli.proofs.run.answer.Goals as goal
 
-pub returns-then : goal.returns-then
-returns-then g c =
+pub returns-then-is_record : goal.returns-then-is_record
+returns-then-is_record g c =
     let e = c.record_main.ensures in
-    let shown_of = λ (created : _). record { contents = g.D.Dock.contents created; marks = g.D.Dock.marks created; asked = g.D.Dock.asked created; target = g.D.Dock.target created; held = g.D.Sink.held created; printed = g.D.Lines.printed created; opens = g.D.Dock.open_faults created; writes = g.D.Sink.write_faults created; says = g.D.Lines.print_faults created } in
-    record {
+    rw (← c.if-is_record.ensures) (record {
       statuses = e.statuses;
       caused = e.caused;
       all_asked = e.all_asked;
@@ -13,7 +13,7 @@ returns-then g c =
       usage = e.usage;
       refused = e.refused;
       open_fault = e.open_fault;
-      write_fault = λ is. let f = e.write_fault is in (f.0, shown_of f.1, f.2.0, f.2.1);
+      write_fault = λ is. let f = e.write_fault is in let created : Shown _ = record { contents = g.D.Dock.contents f.1; marks = g.D.Dock.marks f.1; asked = g.D.Dock.asked f.1; target = g.D.Dock.target f.1; held = g.D.Sink.held f.1; printed = g.D.Lines.printed f.1; opens = g.D.Dock.open_faults f.1; writes = g.D.Sink.write_faults f.1; says = g.D.Lines.print_faults f.1 } in (f.0, created, f.2, f.3);
       no_document = e.no_document;
       cost = e.cost;
       say_fault = e.say_fault;
@@ -22,13 +22,12 @@ returns-then g c =
       completes = e.completes;
       no_file = e.no_file;
       fault_line = e.fault_line;
-    }
+    })
 
-pub returns-else : goal.returns-else
-returns-else g c =
+pub returns-else-is_record : goal.returns-else-is_record
+returns-else-is_record g c =
     let e = c.file_main.ensures in
-    let shown_of = λ (created : _). record { contents = g.D.Dock.contents created; marks = g.D.Dock.marks created; asked = g.D.Dock.asked created; target = g.D.Dock.target created; held = g.D.Sink.held created; printed = g.D.Lines.printed created; opens = g.D.Dock.open_faults created; writes = g.D.Sink.write_faults created; says = g.D.Lines.print_faults created } in
-    record {
+    rw (← c.if-is_record.ensures) (record {
       caused = e.caused;
       usage = e.usage;
       usage_line = e.usage_line;
@@ -53,7 +52,7 @@ returns-else g c =
       repaired = e.repaired;
       repair_not_xdf = e.repair_not_xdf;
       repair_open_fault = e.repair_open_fault;
-      repair_write_fault = λ search from out asked is. let f = e.repair_write_fault search from out asked is in ((shown_of f.0.0, f.0.1.0, f.0.1.1.0, f.0.1.1.1.0, f.0.1.1.1.1), f.1);
+      repair_write_fault = λ search from out asked is. let f = e.repair_write_fault search from out asked is in let created : Shown _ = record { contents = g.D.Dock.contents f.0.0; marks = g.D.Dock.marks f.0.0; asked = g.D.Dock.asked f.0.0; target = g.D.Dock.target f.0.0; held = g.D.Sink.held f.0.0; printed = g.D.Lines.printed f.0.0; opens = g.D.Dock.open_faults f.0.0; writes = g.D.Sink.write_faults f.0.0; says = g.D.Lines.print_faults f.0.0 } in ((created, f.0.1, f.0.2, f.0.3, f.0.4), f.1);
       repair_size_limit = e.repair_size_limit;
       repair_say_fault = e.repair_say_fault;
       repair_memory = e.repair_memory;
@@ -64,4 +63,4 @@ returns-else g c =
       drill_say_fault = e.drill_say_fault;
       drill_memory = e.drill_memory;
       drill_writes_nothing = e.drill_writes_nothing;
-    }
+    })
