@@ -39,10 +39,9 @@ fn feed_of(alloc: Global, count: usize) -> Result<Vec<u8>, Fail> {
 
 // A header document of so many bytes, of which the last are blanks.
 fn document_of(alloc: Global, size: usize) -> Result<Vec<u8>, Fail> {
-    let mut document = vec![in alloc; b' '; size]?;
-    if let Some(front) = document.get_mut(..SHAPE.len()) {
-        front.copy_from_slice(SHAPE);
-    }
+    let mut document = Vec::new(alloc);
+    document.extend_from_slice(SHAPE)?;
+    document.resize(size, b' ')?;
     Ok(document)
 }
 
