@@ -1,5 +1,5 @@
 -- What is said and counted at the end.
-use Rattle.std.proofs.Common.{◌≡◌, ℕ, List, ◌++◌, Option, None, Some, Bool, true, false, Result, Ok, Err, ap, ◌∙◌, sym, OnErr, OnOk, is_ok, IsTrue, ◌||◌, refl, subst, length}
+use Rattle.std.proofs.Common.{◌≡◌, ℕ, List, Option, None, Some, Bool, true, false, Result, Ok, Err, ◌∙◌, sym, OnErr, OnOk, is_ok, IsTrue, ◌||◌, refl, subst, length}
 use Rattle.std.specs.Io.KnownBytes.{Appends, Keeps}
 use Rattle.rec_base.specs.Known.{AppendsFront, Says, printed_line}
 use Rattle.std.proofs.Math.Seq.{take-length}
