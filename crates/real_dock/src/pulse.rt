@@ -100,23 +100,26 @@ impl Pulse {
         let size = self.size.load(Ordering::Relaxed);
         let _ = write!(line, "\r\x1b[K{}: {seconds} s", self.work);
         if written > 0 {
-            let _ = write!(
-                line,
-                ", {}.{} MB written",
-                written / 1_000_000,
-                written / 100_000 % 10
-            );
+            let _ = line.try_push_str(", ");
+            put_size(&mut line, written);
+            let _ = line.try_push_str(" written");
         }
         if size < u64::MAX && size > 0 {
             let _ = write!(line, ", {} % read", read.saturating_mul(100) / size);
         } else {
-            let _ = write!(
-                line,
-                ", {}.{} MB read",
-                read / 1_000_000,
-                read / 100_000 % 10
-            );
+            let _ = line.try_push_str(", ");
+            put_size(&mut line, read);
+            let _ = line.try_push_str(" read");
         }
         line
     }
+}
+
+// A number of bytes, in millions where there are some.
+fn put_size(line: &mut ArrayString<120>, bytes: u64) {
+    let _ = if bytes < 1_000_000 {
+        write!(line, "{bytes} bytes")
+    } else {
+        write!(line, "{}.{} MB", bytes / 1_000_000, bytes / 100_000 % 10)
+    };
 }

@@ -6,8 +6,11 @@ use std::alloc::{AllocError, Global};
 const LONGEST: usize = 200;
 
 /// A text with a `?` for each control character, so that no name can write over the terminal; a long one
-/// is cut.
+/// is cut, and an empty one named as such.
 pub(crate) fn shown(alloc: Global, text: &str) -> Result<String, AllocError> {
+    if text.is_empty() {
+        return "(an empty word)".to_string(alloc);
+    }
     let mut shown = String::new(alloc);
     let mut room = LONGEST;
     for c in text.chars() {

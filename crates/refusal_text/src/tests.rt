@@ -56,12 +56,17 @@ fn sentence<'a>(
 #[test]
 fn a_broken_usage_is_told(rt: HostRuntime) -> Result<(), Fail> {
     let alloc: Global = rt.alloc();
-    let cases: [(&[&str], &str, &str); 6] = [
+    let cases: [(&[&str], &str, &str); 7] = [
         (&[], "fault 2 usage 1", "there is no command"),
         (
             &["rec\u{7}ord"],
             "fault 2 usage 2",
             "rec?ord: is no command",
+        ),
+        (
+            &["", "plan"],
+            "fault 2 usage 2",
+            "(an empty word): is no command",
         ),
         (
             &["repair", "a"],
