@@ -53,7 +53,24 @@ fn a_pipe_takes_the_recording(rt: HostRuntime) -> Result<(), Fail> {
     Ok(())
 }
 
-// The size of the file that the lines go to.
+// The longest name that a folder takes. One that is cut would be another file's.
+#[test]
+fn a_long_name_is_taken_in_full(rt: HostRuntime) -> Result<(), Fail> {
+    let alloc: Global = rt.alloc();
+    let name = "n".repeat(alloc, 255)?;
+    let mut dock = RealDock::new(alloc, rt, rt.stdout(), None)?;
+    dock.create(&word(alloc, name.as_str())?)?;
+    assert_eq!(rt; dock.write(b"ab"), Ok(2));
+    assert_eq!(rt; size_of(&rt, name.as_str())?, 2);
+    let mut source = dock.open(&file(alloc, name.as_str())?)?;
+    let mut buf = [0; 4];
+    assert_eq!(rt; source.read(&mut buf), Ok(2));
+    assert_eq!(rt; buf, *b"ab\0\0");
+    fs::remove_file(&rt, name.as_str())?;
+    Ok(())
+}
+
+// The size of the file at a path.
 fn size_of(rt: &HostRuntime, path: &str) -> Result<u64, Fail> {
     Ok(fs::metadata(rt, path)?.len())
 }
