@@ -267,6 +267,18 @@ def judge_no_memory(case, mode, run, streams):
         raise Wrong("memory ran out in the midst of a recording of numbers")
 
 
+def judge_sentence(kind, run):
+    """On standard error stands one sentence for each refusal, if there is memory for it, and for a read of a feed that failed."""
+    there = run.said != b""
+    if there and not (run.said.endswith(b"\n") and run.said.count(b"\n") == 1 and run.said.strip()):
+        raise Wrong(f"no sentence: {run.said!r}")
+    broken = kind.calls == "read" and kind.how == "fail" and run.touched
+    if run.status >= 2 and not there and kind.calls != "allocation":
+        raise Wrong(f"status {run.status} without a sentence")
+    if run.status < 2 and there != bool(broken):
+        raise Wrong(f"status {run.status} with {run.said!r}")
+
+
 def judge_run(case, mode, kind, run, spoil=None):
     """Raises Wrong, or answers what the output is."""
     broken = kind.calls == "read" and kind.how == "fail" and run.touched
@@ -278,8 +290,9 @@ def judge_run(case, mode, kind, run, spoil=None):
         may = {8 if status in (0, 1) else status for status in may}
     if run.status not in may:
         raise Wrong(f"status {run.status}, and not {' or '.join(map(str, sorted(may)))}; {run.name} {run.lines!r}")
-    if run.said or run.more:
-        raise Wrong(f"there came more: {run.said!r} {run.more}")
+    if run.more:
+        raise Wrong(f"there came more files: {run.more}")
+    judge_sentence(kind, run)
     if run.status in (0, 1):
         want_lines(run, judge_whole(case, mode, run, streams))
     elif run.status == 4:

@@ -274,7 +274,7 @@ def try_faults(program, folder, count, seed):
                 words = {"LD_PRELOAD": library, "FAIL_REPORT": folder / "report", "FAIL_KIND": kind, "FAIL_HOW": how,
                          "FAIL_AT": at, "FAIL_PIECE": 50}
                 ran = subprocess.run([program, "repair", "--search", "in.xdf", "out.xdf"], cwd=folder,
-                                     stdout=subprocess.PIPE, text=True,
+                                     stdout=subprocess.PIPE, stderr=subprocess.PIPE, text=True,
                                      env={**os.environ, **{name: str(word) for name, word in words.items()}})
                 touched = struct.unpack_from("<QQ", (folder / "report").read_bytes())[1]
                 if touched == 0:
@@ -282,6 +282,10 @@ def try_faults(program, folder, count, seed):
                 out = folder / "out.xdf"
                 wrong = judge(kind, ran.returncode, ran.stdout, out.read_bytes() if out.exists() else None, want, said,
                               allowed)
+                # a refusal has one sentence, if there is memory for it
+                least = 0 if kind == "allocation" else 1
+                if not wrong and ran.returncode >= 2 and not least <= ran.stderr.count("\n") <= 1:
+                    wrong = f"no sentence but {ran.stderr!r}"
                 if wrong:
                     raise Failed(f"seed {seed + n}, {kind} {how} {at}: {wrong}, with {ran.stdout!r}")
                 runs += 1

@@ -1,7 +1,9 @@
 -- What is said and counted at the end.
-use Rattle.std.proofs.Common.{◌≡◌, ℕ, List, Option, None, Some, Bool, true, false, Result, Ok, Err, ◌∙◌, sym, OnErr, OnOk, is_ok, IsTrue, ◌||◌, refl, subst, length}
+use Rattle.std.proofs.Common.{◌≡◌, ◌⊎◌, inl, inr, arith, ℕ, List, Option, None, Some, Bool, true, false, Result, Ok, Err, ◌∙◌, sym, OnErr, OnOk, is_ok, IsTrue, ◌||◌, refl, subst, length}
 use Rattle.std.specs.Io.KnownBytes.{Appends, Keeps}
-use Rattle.rec_base.specs.Known.{AppendsFront, Says, printed_line}
+use Rattle.rec_base.specs.Causes.{HasCause, Rose}
+use Rattle.rec_base.specs.Known.{AppendsFront, printed_line}
+use Rattle.dock_calls.specs.Said.{SaysFault}
 use Rattle.std.proofs.Math.Seq.{take-length}
 
 -- what is said stays said when it is put out
@@ -31,7 +33,25 @@ pub or_true : (a b : Bool) → IsTrue a → IsTrue (a || b)
 or_true true b is = refl
 or_true false b is = absurd (cc is)
 
--- what was said is a front of the line, or all of it
-pub says_front : {T E : Type 0} (a b : Option (List ℕ)) (r : Result T E) (line : List ℕ) → Says a b r line → AppendsFront a b (printed_line line)
-says_front a b (Ok x) line said = (length (printed_line line), subst (Appends a b) (sym (take-length (printed_line line))) said)
-says_front a b (Err e) line said = said
+-- a call that fails raises the count, and one that doesn't leaves it
+pub raised : {T E : Type 0} (r : Result T E) (before now : ℕ) → HasCause before now r → (now ≡ before) ⊎ Rose before now
+raised (Ok x) before now cause = inl cause.quiet
+raised (Err e) before now cause = inr cause.failed
+
+-- the line of a fault stays said when it is put out
+still_said : (a b c : Option (List ℕ)) (first before now : ℕ) (line : List ℕ) → (now ≡ before) ⊎ Rose before now
+    → (Appends a b line × (before ≡ first)) ⊎ (AppendsFront a b line × Rose first before) → Keeps b c
+    → (Appends a c line × (now ≡ first)) ⊎ (AppendsFront a c line × Rose first now)
+still_said a b c first before now line (inl same) (inl whole) kept =
+    inl (Appends-kept a b c line whole.0 kept, same ∙ whole.1)
+still_said a b c first before now line (inl same) (inr front) kept =
+    inr (AppendsFront-kept a b c line front.0 kept, let rose = front.1 in omega (arith, rose, same))
+still_said a b c first before now line (inr rose) (inl whole) kept =
+    inr ((length line, subst (Appends a c) (sym (take-length line)) (Appends-kept a b c line whole.0 kept)), let same = whole.1 in omega (arith, rose, same))
+still_said a b c first before now line (inr rose) (inr front) kept =
+    inr (AppendsFront-kept a b c line front.0 kept, let risen = front.1 in omega (arith, rose, risen))
+
+pub SaysFault-kept : (a b c : Option (List ℕ)) (first before now : ℕ) (text : List ℕ) → (now ≡ before) ⊎ Rose before now
+    → SaysFault a b first before text → Keeps b c → SaysFault a c first now text
+SaysFault-kept a b c first before now text ends fault kept =
+    record { said = still_said a b c first before now (printed_line text) ends fault.said kept }

@@ -2,7 +2,7 @@
 use Rattle.std.specs.Prelude.{◌≡◌, ℕ, Bool, true, false, IsTrue, List, Option, not, ◌||◌, codes}
 use Rattle.std.specs.Io.KnownBytes.{Keeps}
 use Rattle.rec_base.specs.Causes.{Rose}
-use Rattle.rec_base.specs.Known.{AppendsFront, printed_line}
+use Rattle.dock_calls.specs.Said.{SaysFault}
 use Rattle.record_cli.specs.Shown.{Shown}
 use Rattle.record_cli.specs.RecordAnswer.{IsRecordAnswer}
 use Rattle.record_cli.specs.FileAnswer.{IsFileAnswer}
@@ -21,10 +21,13 @@ pub record IsSettled {I : Type 0} (before after : Shown I) (on_disk : Bool) (out
   pub is : result ≡ last_status forced told status
   pub disk : IsTrue forced → on_disk ≡ true
   pub all_out : IsTrue told → out ≡ after.printed
+  pub contents : after.contents ≡ before.contents
+  pub marks : after.marks ≡ before.marks
+  pub asked : after.asked ≡ before.asked
   pub held : after.held ≡ before.held
   pub target : after.target ≡ before.target
   pub unspoken : IsTrue (forced || not (is_written status)) → Keeps before.printed after.printed
-  pub spoken : AppendsFront before.printed after.printed (printed_line (codes "fault 5"))
+  pub spoken : forced ≡ false → IsTrue (is_written status) → SaysFault before.printed after.printed before.says after.says (codes "fault 5")
   pub opens : after.opens ≡ before.opens
   pub write_rose : forced ≡ false → Rose before.writes after.writes
   pub write_quiet : IsTrue forced → after.writes ≡ before.writes

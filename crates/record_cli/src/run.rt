@@ -1,12 +1,13 @@
 //! What the program does, on any dock.
 
-ghost use Rattle.std.specs.Prelude.{◌≡◌, ◌≤◌, ◌||◌, ℕ, IsTrue, codes, not};
-ghost use Rattle.rec_base.specs.Known.{AppendsFront, printed_line};
+ghost use Rattle.std.specs.Prelude.{◌≡◌, ◌≤◌, ◌||◌, ℕ, IsTrue, codes, false, not};
+ghost use Rattle.dock_calls.specs.Said.{SaysFault};
 ghost use Rattle.record_cli.specs.Answers.{IsAnswer, IsSettled};
 ghost use Rattle.record_cli.specs.Shown.{Shown};
 ghost use Rattle.record_cli.specs.Statuses.{is_written, last_status};
 ghost use Rattle.record_cli.specs.Words.{starts_record};
 
+use dock_calls::say_fault;
 use file_call::file_main;
 use real_dock::Settle;
 use rec_base::{Dock, Lines, Sink, Source, Word};
@@ -85,12 +86,12 @@ fn settle<D: Settle>(status: u8, dock: &mut D) -> u8
 // Says that what is written may not be on the disk, where the status says that it is written.
 fn say_unforced<D: Dock>(status: u8, forced: bool, dock: &mut D)
     ensures unspoken { IsTrue (forced || not (is_written status)) → dock.new ≡ dock.old }
-    ensures spoken { AppendsFront (D.printed dock.old) (D.printed dock.new) (printed_line (codes "fault 5")) }
+    ensures spoken { forced ≡ false → IsTrue (is_written status) → SaysFault (D.printed dock.old) (D.printed dock.new) (D.print_faults dock.old) (D.print_faults dock.new) (codes "fault 5") }
     ensures later { D.print_faults dock.old ≤ D.print_faults dock.new }
     ensures rest { D.Lines.rest dock.new ≡ D.Lines.rest dock.old }
 {
     if last_status(status, forced, true) != status {
-        let _ = dock.say("fault 5");
+        say_fault(dock, "fault 5");
     }
 }
 
